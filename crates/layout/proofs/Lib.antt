@@ -1,3 +1,5 @@
 pub mod Accepts
 pub mod Placed
 pub mod Only
+pub mod Back
+pub mod Ranges
