@@ -1,5 +1,5 @@
 -- A text cut into its rows, and a reader that takes them one by one.
-use Prim.Native.Nat.{ℕ, zero, suc}
+use Prim.Native.Nat.{ℕ, zero, suc, _+_}
 use mathlib.Core.Bool.{Bool, cond}
 use mathlib.Core.List.{List, [], _∷_, _++_}
 use lib.Dec.{eqb}
@@ -36,3 +36,12 @@ after rest (Some q) = later (rest q)
 abbrev pub verdict : {S : Type 0} → (S → List ℕ → Option S) → (S → Bool) → List (List ℕ) → S → Option ℕ
 verdict step final [] q = cond (final q) None (Some 0)
 verdict step final (l ∷ ls) q = after (verdict step final ls) (step q l)
+
+abbrev pub placed-after : {S : Type 0} → ℕ → (S → Option ℕ) → Option S → Option ℕ
+placed-after at rest None = Some at
+placed-after at rest (Some q) = rest q
+
+-- the same verdict by the place of the row in the text, where the rows begin at `at`
+abbrev pub place-from : {S : Type 0} → (S → List ℕ → Option S) → (S → Bool) → ℕ → List (List ℕ) → S → Option ℕ
+place-from step final at [] q = cond (final q) None (Some at)
+place-from step final at (l ∷ ls) q = placed-after at (place-from step final (at + length l) ls) (step q l)
