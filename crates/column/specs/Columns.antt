@@ -41,8 +41,16 @@ negative None = None
 negative (Some zero) = None
 negative (Some (suc n)) = Some (negsuc n)
 
--- the number that a column holds: blanks, then a minus if it is negative, then its digits up to the column's end
+-- a minus if it is negative, then its digits up to the end
+abbrev pub number : List ℕ → Option ℤ
+number [] = None
+number (c ∷ cs) = cond (eqb c 45) (negative (natural cs)) (positive (natural (c ∷ cs)))
+
+-- the number that a column holds: blanks, and then the number up to the column's end
 unfoldable pub read-column : List ℕ → Option ℤ
 read-column [] = None
-read-column (c ∷ cs) =
-    cond (eqb c 32) (read-column cs) (cond (eqb c 45) (negative (natural cs)) (positive (natural (c ∷ cs))))
+read-column (c ∷ cs) = cond (eqb c 32) (read-column cs) (number (c ∷ cs))
+
+-- a column is at most 18 wide, so that its number fits 64 bits
+abbrev pub column-of : List ℕ → Option ℤ
+column-of t = cond (leb (length t) 18) (read-column t) None
