@@ -201,3 +201,47 @@ fn put_blanks(end: usize, out: &mut [u8])
         out[i] = b' ';
     }
 }
+
+#[cfg(test)]
+mod tests {
+    use super::read_column;
+    use super::write_column;
+    use std::test::*;
+
+    #[test]
+    fn reads() -> Result<(), Fail> {
+        check_eq(read_column(b"   0"), Some(0))?;
+        check_eq(read_column(b" -17"), Some(-17))?;
+        check_eq(read_column(b"2048"), Some(2048))?;
+        check_eq(read_column(b"999999999999999999"), Some(999999999999999999))?;
+        Ok(())
+    }
+
+    #[test]
+    fn refuses() -> Result<(), Fail> {
+        check_eq(read_column(b""), None)?;
+        check_eq(read_column(b"    "), None)?;
+        check_eq(read_column(b"  -0"), None)?;
+        check_eq(read_column(b"  07"), None)?;
+        check_eq(read_column(b"   -"), None)?;
+        check_eq(read_column(b"  7 "), None)?;
+        check_eq(read_column(b"- 7"), None)?;
+        check_eq(read_column(b"                  7"), None)?;
+        Ok(())
+    }
+
+    #[test]
+    fn writes() -> Result<(), Fail> {
+        let mut wide = [b'x'; 20];
+        check(write_column(i64::MIN, &mut wide))?;
+        check_eq(wide, *b"-9223372036854775808")?;
+        let mut narrow = [b'x'; 4];
+        check(!write_column(-2048, &mut narrow))?;
+        check_eq(narrow, *b"xxxx")?;
+        check(write_column(-17, &mut narrow))?;
+        check_eq(narrow, *b" -17")?;
+        check(write_column(0, &mut narrow))?;
+        check_eq(narrow, *b"   0")?;
+        Ok(())
+    }
+}
