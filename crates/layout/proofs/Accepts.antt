@@ -35,7 +35,7 @@ bytes-left : (xs : List ℕ) → length xs - length (take 16 xs) ≡ length (dro
 bytes-left xs = simp (length-take, length-drop) (omega arith)
 
 pub run-bytes : (k : ℕ) (bs : List ℕ) (rest : List Entry) (n x s r z q : ℕ) → length bs ≤ k
-  → run (with-bytes k bs rest) (Open (due n x s r z (length bs) q)) ≡ run rest (Open (due n x s r z 0 q))
+    → run (with-bytes k bs rest) (Open (due n x s r z (length bs) q)) ≡ run rest (Open (due n x s r z 0 q))
 run-bytes zero [] rest n x s r z q h = refl
 run-bytes zero (b ∷ bs) rest n x s r z q h = absurd (omega arith)
 run-bytes (suc k) [] rest n x s r z q h = refl
@@ -48,11 +48,11 @@ run-bytes (suc k) (b ∷ bs) rest n x s r z q h =
     ∙ run-bytes k (drop 16 xs) rest n x s r z q short
 
 pub run-relocations : (rs : List Relocation) (rest : List Entry) (n x s r z : ℕ) → All (λ y. y .offset < z) rs
-  → run (with-relocations rs rest) (Open (due n x s r z 0 (length rs))) ≡ run rest (Open (due n x s r z 0 0))
+    → run (with-relocations rs rest) (Open (due n x s r z 0 (length rs))) ≡ run rest (Open (due n x s r z 0 0))
 run-relocations [] rest n x s r z h = refl
 run-relocations (y ∷ rs) rest n x s r z h =
     run-step (with-relocations rs rest) _ (Open (due n x s r z 0 (suc (length rs) - 1)))
-      (and-from _ _ refl (and-from _ _ (lt-ltb _ _ (omega arith)) (lt-ltb _ _ (h .0))))
+    (and-from _ _ refl (and-from _ _ (lt-ltb _ _ (omega arith)) (lt-ltb _ _ (h .0))))
     ∙ ap (λ (m : ℕ). run (with-relocations rs rest) (Open (due n x s r z 0 m))) (omega arith)
     ∙ run-relocations rs rest n x s r z (h .1)
 
@@ -60,7 +60,7 @@ pub run-roots : (ts : List ℕ) (n x s z : ℕ) → run (with-roots ts (end s �
 run-roots [] n x s z = run-step [] _ Done (and-from _ _ refl (and-from _ _ refl (eq-eqb s s refl)))
 run-roots (t ∷ ts) n x s z =
     run-step (with-roots ts (end s ∷ [])) _ (Open (due n n s (suc (length ts) - 1) z 0 0))
-      (and-from _ _ refl (lt-ltb _ _ (omega arith)))
+    (and-from _ _ refl (lt-ltb _ _ (omega arith)))
     ∙ ap (λ (m : ℕ). run (with-roots ts (end s ∷ [])) (Open (due n n s m z 0 0))) (omega arith)
     ∙ run-roots ts n n s z
 
@@ -70,7 +70,7 @@ Offsets None = Unit {0}
 Offsets (Some b) = All (λ y. y .offset < length (b .bytes)) (b .relocations)
 
 run-sections : (bs : List (Option Body)) (ts : List ℕ) (s n x seen z total : ℕ) → x ≤ s → s + length bs ≤ n → All Offsets bs → seen + present-count bs ≡ total
-  → run (with-sections s bs (with-roots ts (end total ∷ []))) (Open (due n x seen (length ts) z 0 0)) ≡ true
+    → run (with-sections s bs (with-roots ts (end total ∷ []))) (Open (due n x seen (length ts) z 0 0)) ≡ true
 run-sections [] ts s n x seen z total low fits h e =
     let same : seen ≡ total = omega arith in
     ap (λ (k : ℕ). run (with-roots ts (end k ∷ [])) (Open (due n x seen (length ts) z 0 0))) (sym same) ∙ run-roots ts n x seen z
@@ -80,7 +80,7 @@ run-sections (Some b ∷ bs) ts s n x seen z total low fits h e =
     let rest : List Entry = with-sections (suc s) bs (with-roots ts (end total ∷ [])) in
     let size : ℕ = length (b .bytes) in
     run-step (with-bytes size (b .bytes) (with-relocations (b .relocations) rest)) _ (Open (due n (suc s) (suc seen) (length ts) size size (length (b .relocations))))
-      (and-from _ _ refl (and-from _ _ (le-leb _ _ low) (lt-ltb _ _ (omega arith))))
+    (and-from _ _ refl (and-from _ _ (le-leb _ _ low) (lt-ltb _ _ (omega arith))))
     ∙ run-bytes size (b .bytes) (with-relocations (b .relocations) rest) n (suc s) (suc seen) (length ts) size (length (b .relocations)) (omega arith)
     ∙ run-relocations (b .relocations) rest n (suc s) (suc seen) (length ts) size (h .0)
     ∙ run-sections bs ts (suc s) n (suc s) (suc seen) size total (omega arith) (omega arith) (h .1) (omega arith)
@@ -92,5 +92,5 @@ offsets-of (Some b) h = all-weaker _ (λ y. y .offset < length (b .bytes)) (λ y
 pub accepts : (g : Graph) → Formed g → run (entries g) Start ≡ true
 accepts g v =
     run-sections (g .sections) (g .roots) 0 (length (g .sections)) 0 0 0 (present-count (g .sections)) (omega arith) (omega arith)
-      (all-from-getD Offsets (g .sections) None (λ s h. offsets-of (section-of g s) (v .bodies s)))
-      (omega arith)
+    (all-from-getD Offsets (g .sections) None (λ s h. offsets-of (section-of g s) (v .bodies s)))
+    (omega arith)

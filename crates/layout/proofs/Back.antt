@@ -30,7 +30,7 @@ parts-bytes (suc k) (b ∷ bs) rest h =
     let short : length (drop 16 xs) ≤ k = simp length-drop (omega arith) in
     ap (told-by (bytes (take 16 xs))) (parts-bytes k (drop 16 xs) rest short)
     ∙ ap (λ (ys : List ℕ). record { bytes = ys; relocations = parts rest .relocations; sections = parts rest .sections; roots = parts rest .roots })
-        (sym (append-assoc (take 16 xs) (drop 16 xs) (parts rest .bytes)) ∙ ap (λ (ys : List ℕ). ys ++ parts rest .bytes) (take-append-drop 16 xs))
+    (sym (append-assoc (take 16 xs) (drop 16 xs) (parts rest .bytes)) ∙ ap (λ (ys : List ℕ). ys ++ parts rest .bytes) (take-append-drop 16 xs))
 
 parts-relocations : (rs : List Relocation) (rest : List Entry) → parts (with-relocations rs rest) ≡ front [] rs (parts rest)
 parts-relocations [] rest = refl
@@ -46,24 +46,27 @@ sections-before xs p =
 
 abbrev with-those : Body → Parts → List ℕ → List Relocation → ℕ → Parts
 with-those b p bs rs s =
-    record
-      { bytes = []
-      ; relocations = []
-      ; sections =
-        ( s
-        , record
-          { flags = b .flags
-          ; alignment = b .alignment
-          ; bytes = bs
-          ; setting = b .setting
-          ; relocations = rs } )
-        ∷ p .sections
-      ; roots = p .roots }
+    record {
+      bytes = [];
+      relocations = [];
+      sections = (
+        s,
+        record {
+          flags = b .flags;
+          alignment = b .alignment;
+          bytes = bs;
+          setting = b .setting;
+          relocations = rs;
+        },
+      )
+          ∷ p .sections;
+      roots = p .roots;
+    }
 
 parts-section : (s : ℕ) (b : Body) (rest : List Entry) → Fresh (parts rest) → parts (with-section s b rest) ≡ sections-before ((s, b) ∷ []) (parts rest)
 parts-section s b rest f =
     ap (told-by (section s (record-in b)))
-      (parts-bytes (length (b .bytes)) (b .bytes) (with-relocations (b .relocations) rest) (omega arith) ∙ ap (front (b .bytes) []) (parts-relocations (b .relocations) rest))
+    (parts-bytes (length (b .bytes)) (b .bytes) (with-relocations (b .relocations) rest) (omega arith) ∙ ap (front (b .bytes) []) (parts-relocations (b .relocations) rest))
     ∙ ap (λ (bs : List ℕ). with-those b (parts rest) (b .bytes ++ bs) (b .relocations ++ parts rest .relocations) s) (f .0)
     ∙ ap (λ (bs : List ℕ). with-those b (parts rest) bs (b .relocations ++ parts rest .relocations) s) (append-nil (b .bytes))
     ∙ ap (λ (rs : List Relocation). with-those b (parts rest) (b .bytes) (b .relocations ++ rs) s) (f .1)
@@ -112,10 +115,10 @@ back g =
     let ends : List Entry = with-roots (g .roots) (end k ∷ []) in
     let told = parts-roots (g .roots) k in
     let all =
-        parts-sections 0 (g .sections) ends (ap (λ (p : Parts). p .bytes) told, ap (λ (p : Parts). p .relocations) told)
-        ∙ ap (sections-before (numbered 0 (g .sections))) told in
+    parts-sections 0 (g .sections) ends (ap (λ (p : Parts). p .bytes) told, ap (λ (p : Parts). p .relocations) told)
+    ∙ ap (sections-before (numbered 0 (g .sections))) told in
     let here : parts (entries g) .sections ≡ numbered 0 (g .sections) = ap (λ (p : Parts). p .sections) all ∙ append-nil (numbered 0 (g .sections)) in
     let sections : placed 0 (length (g .sections)) (parts (entries g) .sections) ≡ g .sections =
-        ap (placed 0 (length (g .sections))) here ∙ placed-numbered 0 (g .sections) in
+    ap (placed 0 (length (g .sections))) here ∙ placed-numbered 0 (g .sections) in
     let roots : parts (entries g) .roots ≡ g .roots = ap (λ (p : Parts). p .roots) all in
     λ i. record { sections = sections i; roots = roots i }

@@ -3,3 +3,5 @@ pub mod Placed
 pub mod Only
 pub mod Back
 pub mod Ranges
+pub mod Aims
+pub mod Texts

@@ -41,10 +41,10 @@ pub record Rest (d : Due) (es : List Entry) : Type 0 where
   pub roots : length (parts es .roots) ≡ d .roots
   pub free : All Free (parts es .roots)
   pub rows : es
-    ≡ with-bytes (length (parts es .bytes)) (parts es .bytes)
+      ≡ with-bytes (length (parts es .bytes)) (parts es .bytes)
       (with-relocations (parts es .relocations)
-        (with-pairs (parts es .sections)
-          (with-roots (parts es .roots) (end (d .seen + length (parts es .sections)) ∷ []))))
+      (with-pairs (parts es .sections)
+      (with-roots (parts es .roots) (end (d .seen + length (parts es .sections)) ∷ []))))
 
 -- a row that came was one that may come
 came : (es : List Entry) (b : Bool) (q : State) → run-on (run es) (cond b (Some q) None) ≡ true → (b ≡ true) × (run es q ≡ true)
@@ -74,7 +74,7 @@ with-bytes-enough (suc j) (suc k) (b ∷ bs) rest h l =
 
 -- sixteen bytes a row
 pub with-bytes-some : (bs : List ℕ) (rest : List Entry) → 0 < length bs
-  → with-bytes (length bs) bs rest ≡ bytes (take 16 bs) ∷ with-bytes (length (drop 16 bs)) (drop 16 bs) rest
+    → with-bytes (length bs) bs rest ≡ bytes (take 16 bs) ∷ with-bytes (length (drop 16 bs)) (drop 16 bs) rest
 with-bytes-some [] rest h = absurd (omega arith)
 with-bytes-some (b ∷ bs) rest h =
     let xs : List ℕ = b ∷ bs in
@@ -93,7 +93,7 @@ row-cut bs cs e = go (cases-lt (length bs) 16)
     go (inr full) = let at : length bs ≡ 16 = omega arith in (take-at bs cs 16 at, drop-at bs cs 16 at)
 
 with-bytes-more : (bs cs : List ℕ) (rest : List Entry) → length bs ≡ min 16 (length bs + length cs) → 0 < length bs
-  → with-bytes (length (bs ++ cs)) (bs ++ cs) rest ≡ bytes bs ∷ with-bytes (length cs) cs rest
+    → with-bytes (length (bs ++ cs)) (bs ++ cs) rest ≡ bytes bs ∷ with-bytes (length cs) cs rest
 with-bytes-more bs cs rest e h =
     let some : 0 < length (bs ++ cs) = simp length-append (omega arith) in
     let cut = row-cut bs cs e in
@@ -105,7 +105,7 @@ no-bytes : (bs : List ℕ) (rest : List Entry) → bs ≡ [] → with-bytes (len
 no-bytes bs rest e = ap (λ (xs : List ℕ). with-bytes (length xs) xs rest) e
 
 nothing-before : (bs : List ℕ) (rs : List Relocation) (ps : List (ℕ × Body)) (rest : List Entry) → bs ≡ [] → rs ≡ [] → ps ≡ []
-  → with-bytes (length bs) bs (with-relocations rs (with-pairs ps rest)) ≡ rest
+    → with-bytes (length bs) bs (with-relocations rs (with-pairs ps rest)) ≡ rest
 nothing-before bs rs ps rest b r p =
     no-bytes bs (with-relocations rs (with-pairs ps rest)) b
     ∙ ap (λ (xs : List Relocation). with-relocations xs (with-pairs ps rest)) r
@@ -117,71 +117,76 @@ record-back m p e f i =
     record { flags = m .flags; alignment = m .alignment; size = e i; relocations = f i; setting = m .setting }
 
 section-rest : (s : ℕ) (m : Record) (es : List Entry) (d : Due) → Ranged (section s m)
-  → (settled d && (leb (d .next) s && ltb s (d .sections))) ≡ true → Rest (after-section d s m) es → Rest d (section s m ∷ es)
+    → (settled d && (leb (d .next) s && ltb s (d .sections))) ≡ true → Rest (after-section d s m) es → Rest d (section s m ∷ es)
 section-rest s m es d r b t =
     let now = and-parts _ _ b in
     let none = nothing-due d (now .0) in
     let range = and-parts _ _ (now .1) in
-    record
-      { bytes = sym (none .0)
-      ; values = tt
-      ; relocations = sym (none .1)
-      ; lawful-relocations = tt
-      ; ascending = (leb-true _ _ (range .0), ltb-true _ _ (range .1), t .ascending)
-      ; lawful =
-        ( record
-          { flags = r .1 .flags
-          ; alignment = r .1 .alignment
-          ; size = subst (λ (k : ℕ). k < 2 ^ 16) (sym (t .bytes)) (r .1 .size)
-          ; bytes = t .values
-          ; few = subst (λ (k : ℕ). k < 2 ^ 16) (sym (t .relocations)) (r .1 .relocations)
-          ; relocations = subst (λ (k : ℕ). All (Lawful-relocation Free k) (parts es .relocations)) (sym (t .bytes)) (t .lawful-relocations) }
-        , t .lawful )
-      ; roots = t .roots
-      ; free = t .free
-      ; rows =
-        ap (λ (xs : List Entry). section s m ∷ xs) (t .rows)
-        ∙ ap (λ (x : Record). section s x ∷ with-bytes (length (parts es .bytes)) (parts es .bytes) (with-relocations (parts es .relocations) (with-pairs (parts es .sections) (with-roots (parts es .roots) (end (suc (d .seen) + length (parts es .sections)) ∷ []))))) (sym (record-back m (parts es) (t .bytes) (t .relocations)))
-        ∙ ap (λ (k : ℕ). section s (record-in (body-of m (parts es))) ∷ with-bytes (length (parts es .bytes)) (parts es .bytes) (with-relocations (parts es .relocations) (with-pairs (parts es .sections) (with-roots (parts es .roots) (end k ∷ []))))) (omega arith) }
+    record {
+      bytes = sym (none .0);
+      values = tt;
+      relocations = sym (none .1);
+      lawful-relocations = tt;
+      ascending = (leb-true _ _ (range .0), ltb-true _ _ (range .1), t .ascending);
+      lawful = (
+        record {
+          flags = r .1 .flags;
+          alignment = r .1 .alignment;
+          size = subst (λ (k : ℕ). k < 2 ^ 16) (sym (t .bytes)) (r .1 .size);
+          bytes = t .values;
+          few = subst (λ (k : ℕ). k < 2 ^ 16) (sym (t .relocations)) (r .1 .relocations);
+          relocations = subst (λ (k : ℕ). All (Lawful-relocation Free k) (parts es .relocations)) (sym (t .bytes)) (t .lawful-relocations);
+        },
+        t .lawful,
+      );
+      roots = t .roots;
+      free = t .free;
+      rows =
+          ap (λ (xs : List Entry). section s m ∷ xs) (t .rows)
+          ∙ ap (λ (x : Record). section s x ∷ with-bytes (length (parts es .bytes)) (parts es .bytes) (with-relocations (parts es .relocations) (with-pairs (parts es .sections) (with-roots (parts es .roots) (end (suc (d .seen) + length (parts es .sections)) ∷ []))))) (sym (record-back m (parts es) (t .bytes) (t .relocations)))
+          ∙ ap (λ (k : ℕ). section s (record-in (body-of m (parts es))) ∷ with-bytes (length (parts es .bytes)) (parts es .bytes) (with-relocations (parts es .relocations) (with-pairs (parts es .sections) (with-roots (parts es .roots) (end k ∷ []))))) (omega arith);
+    }
 
 bytes-rest : (bs : List ℕ) (es : List Entry) (d : Due) → Ranged (bytes bs) → eqb (length bs) (min 16 (d .bytes)) ≡ true
-  → Rest (after-bytes d (length bs)) es → Rest d (bytes bs ∷ es)
+    → Rest (after-bytes d (length bs)) es → Rest d (bytes bs ∷ es)
 bytes-rest bs es d r b t =
     let cut : length bs ≡ min 16 (d .bytes) = eqb-true _ _ b in
     let left : length (parts es .bytes) ≡ d .bytes - length bs = t .bytes in
-    record
-      { bytes = length-append bs (parts es .bytes) ∙ omega arith
-      ; values = all-append _ bs (parts es .bytes) (r .2) (t .values)
-      ; relocations = t .relocations
-      ; lawful-relocations = t .lawful-relocations
-      ; ascending = t .ascending
-      ; lawful = t .lawful
-      ; roots = t .roots
-      ; free = t .free
-      ; rows =
-        ap (λ (xs : List Entry). bytes bs ∷ xs) (t .rows)
-        ∙ sym (with-bytes-more bs (parts es .bytes) _ (omega arith) (r .0)) }
+    record {
+      bytes = length-append bs (parts es .bytes) ∙ omega arith;
+      values = all-append _ bs (parts es .bytes) (r .2) (t .values);
+      relocations = t .relocations;
+      lawful-relocations = t .lawful-relocations;
+      ascending = t .ascending;
+      lawful = t .lawful;
+      roots = t .roots;
+      free = t .free;
+      rows =
+          ap (λ (xs : List Entry). bytes bs ∷ xs) (t .rows)
+          ∙ sym (with-bytes-more bs (parts es .bytes) _ (omega arith) (r .0));
+    }
 
 relocation-rest : (x : Relocation) (es : List Entry) (d : Due) → Ranged (relocation x)
-  → (eqb (d .bytes) 0 && (ltb 0 (d .relocations) && ltb (x .offset) (d .size))) ≡ true → Rest (after-relocation d) es → Rest d (relocation x ∷ es)
+    → (eqb (d .bytes) 0 && (ltb 0 (d .relocations) && ltb (x .offset) (d .size))) ≡ true → Rest (after-relocation d) es → Rest d (relocation x ∷ es)
 relocation-rest x es d r b t =
     let now = and-parts _ _ b in
     let range = and-parts _ _ (now .1) in
     let some : 0 < d .relocations = ltb-true _ _ (range .0) in
     let left : length (parts es .relocations) ≡ d .relocations - 1 = t .relocations in
     let none : parts es .bytes ≡ [] = nil-from-length _ (t .bytes ∙ eqb-true _ _ (now .0)) in
-    record
-      { bytes = t .bytes
-      ; values = t .values
-      ; relocations = omega arith
-      ; lawful-relocations = (weaker (d .size) 65535 x (ltb-true _ _ (range .1)) r, t .lawful-relocations)
-      ; ascending = t .ascending
-      ; lawful = t .lawful
-      ; roots = t .roots
-      ; free = t .free
-      ; rows =
-        ap (λ (xs : List Entry). relocation x ∷ xs) (t .rows ∙ no-bytes (parts es .bytes) _ none)
-        ∙ sym (no-bytes (parts es .bytes) _ none) }
+    record {
+      bytes = t .bytes;
+      values = t .values;
+      relocations = omega arith;
+      lawful-relocations = (weaker (d .size) 65535 x (ltb-true _ _ (range .1)) r, t .lawful-relocations);
+      ascending = t .ascending;
+      lawful = t .lawful;
+      roots = t .roots;
+      free = t .free;
+      rows =
+          ap (λ (xs : List Entry). relocation x ∷ xs) (t .rows ∙ no-bytes (parts es .bytes) _ none)
+          ∙ sym (no-bytes (parts es .bytes) _ none);
+    }
 
 root-rest : (x : ℕ) (es : List Entry) (d : Due) → Ranged (root x) → (settled d && ltb 0 (d .roots)) ≡ true → Rest (after-root d) es → Rest d (root x ∷ es)
 root-rest x es d r b t =
@@ -192,34 +197,36 @@ root-rest x es d r b t =
     let nb : parts es .bytes ≡ [] = nil-from-length _ (t .bytes ∙ due .0) in
     let nr : parts es .relocations ≡ [] = nil-from-length _ (t .relocations ∙ due .1) in
     let ns : parts es .sections ≡ [] = ascending-none (d .sections) _ (t .ascending) in
-    record
-      { bytes = t .bytes
-      ; values = t .values
-      ; relocations = t .relocations
-      ; lawful-relocations = t .lawful-relocations
-      ; ascending = subst (λ (xs : List (ℕ × Body)). Ascending (d .next) (d .sections) xs) (sym ns) tt
-      ; lawful = t .lawful
-      ; roots = omega arith
-      ; free = (r, t .free)
-      ; rows =
-        ap (λ (xs : List Entry). root x ∷ xs) (t .rows ∙ nothing-before _ _ _ _ nb nr ns)
-        ∙ sym (nothing-before _ _ _ _ nb nr ns) }
+    record {
+      bytes = t .bytes;
+      values = t .values;
+      relocations = t .relocations;
+      lawful-relocations = t .lawful-relocations;
+      ascending = subst (λ (xs : List (ℕ × Body)). Ascending (d .next) (d .sections) xs) (sym ns) tt;
+      lawful = t .lawful;
+      roots = omega arith;
+      free = (r, t .free);
+      rows =
+          ap (λ (xs : List Entry). root x ∷ xs) (t .rows ∙ nothing-before _ _ _ _ nb nr ns)
+          ∙ sym (nothing-before _ _ _ _ nb nr ns);
+    }
 
 end-rest : (k : ℕ) (d : Due) → (settled d && (eqb (d .roots) 0 && eqb k (d .seen))) ≡ true → Rest d (end k ∷ [])
 end-rest k d b =
     let now = and-parts _ _ b in
     let due = nothing-due d (now .0) in
     let last = and-parts _ _ (now .1) in
-    record
-      { bytes = sym (due .0)
-      ; values = tt
-      ; relocations = sym (due .1)
-      ; lawful-relocations = tt
-      ; ascending = tt
-      ; lawful = tt
-      ; roots = sym (eqb-true _ _ (last .0))
-      ; free = tt
-      ; rows = ap (λ (n : ℕ). end n ∷ []) (let same : k ≡ d .seen = eqb-true _ _ (last .1) in omega arith) }
+    record {
+      bytes = sym (due .0);
+      values = tt;
+      relocations = sym (due .1);
+      lawful-relocations = tt;
+      ascending = tt;
+      lawful = tt;
+      roots = sym (eqb-true _ _ (last .0));
+      free = tt;
+      rows = ap (λ (n : ℕ). end n ∷ []) (let same : k ≡ d .seen = eqb-true _ _ (last .1) in omega arith);
+    }
 
 only-open : (es : List Entry) (d : Due) → All Ranged es → run es (Open d) ≡ true → Rest d es
 only-open [] d r h = absurd (let z : _≡_ {A = ℕ} 0 1 = cc in omega arith)
@@ -249,14 +256,16 @@ only (header n k ∷ es) r h =
     let p = parts es in
     let same = placed-rows 0 n (p .sections) (with-roots (p .roots) (end (present-count (placed 0 n (p .sections))) ∷ [])) n (omega arith) (t .ascending) in
     let nb : p .bytes ≡ [] = nil-from-length _ (t .bytes) in
-    let nr : p .relocations ≡ [] = nil-from-length _ (t .relocations) in
-    ( ap (λ (xs : List Entry). header n k ∷ xs) (t .rows ∙ no-bytes (p .bytes) _ nb ∙ ap (λ (xs : List Relocation). with-relocations xs (with-pairs (p .sections) (with-roots (p .roots) (end (0 + length (p .sections)) ∷ [])))) nr)
-      ∙ ap (λ (c : ℕ). header n k ∷ with-pairs (p .sections) (with-roots (p .roots) (end c ∷ []))) (let c : present-count (placed 0 n (p .sections)) ≡ length (p .sections) = same .1 in omega arith)
-      ∙ ap (λ (xs : List Entry). header n k ∷ xs) (sym (same .0))
-      ∙ ap (λ (c : ℕ). header c k ∷ with-sections 0 (placed 0 n (p .sections)) (with-roots (p .roots) (end (present-count (placed 0 n (p .sections))) ∷ []))) (sym (length-placed 0 n (p .sections)))
-      ∙ ap (λ (c : ℕ). header (length (placed 0 n (p .sections))) c ∷ with-sections 0 (placed 0 n (p .sections)) (with-roots (p .roots) (end (present-count (placed 0 n (p .sections))) ∷ []))) (sym (t .roots))
-    , record
-        { few = subst (λ (c : ℕ). c ≤ 1024) (sym (length-placed 0 n (p .sections))) (r .0 .0)
-        ; few-roots = subst (λ (c : ℕ). c ≤ 4096) (sym (t .roots)) (r .0 .1)
-        ; bodies = placed-all (Lawful-body Free) 0 n (p .sections) (t .lawful)
-        ; rooted = t .free } )
+    let nr : p .relocations ≡ [] = nil-from-length _ (t .relocations) in (
+      ap (λ (xs : List Entry). header n k ∷ xs) (t .rows ∙ no-bytes (p .bytes) _ nb ∙ ap (λ (xs : List Relocation). with-relocations xs (with-pairs (p .sections) (with-roots (p .roots) (end (0 + length (p .sections)) ∷ [])))) nr)
+          ∙ ap (λ (c : ℕ). header n k ∷ with-pairs (p .sections) (with-roots (p .roots) (end c ∷ []))) (let c : present-count (placed 0 n (p .sections)) ≡ length (p .sections) = same .1 in omega arith)
+          ∙ ap (λ (xs : List Entry). header n k ∷ xs) (sym (same .0))
+          ∙ ap (λ (c : ℕ). header c k ∷ with-sections 0 (placed 0 n (p .sections)) (with-roots (p .roots) (end (present-count (placed 0 n (p .sections))) ∷ []))) (sym (length-placed 0 n (p .sections)))
+          ∙ ap (λ (c : ℕ). header (length (placed 0 n (p .sections))) c ∷ with-sections 0 (placed 0 n (p .sections)) (with-roots (p .roots) (end (present-count (placed 0 n (p .sections))) ∷ []))) (sym (t .roots)),
+      record {
+        few = subst (λ (c : ℕ). c ≤ 1024) (sym (length-placed 0 n (p .sections))) (r .0 .0);
+        few-roots = subst (λ (c : ℕ). c ≤ 4096) (sym (t .roots)) (r .0 .1);
+        bodies = placed-all (Lawful-body Free) 0 n (p .sections) (t .lawful);
+        rooted = t .free;
+      },
+    )

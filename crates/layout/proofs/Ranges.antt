@@ -26,9 +26,10 @@ ranged-bytes (suc k) (b ∷ bs) rest h r =
 
 ranged-relocations : (rs : List Relocation) (size : ℕ) (rest : List Entry) → size < 2 ^ 16 → All (Lawful-relocation Free size) rs → All Ranged rest → All Ranged (with-relocations rs rest)
 ranged-relocations [] size rest few h r = r
-ranged-relocations (x ∷ rs) size rest few h r =
-    ( record { offset = omega (arith, h .0 .offset); kind = h .0 .kind; aimed = h .0 .aimed; low = h .0 .low; high = h .0 .high }
-    , ranged-relocations rs size rest few (h .1) r )
+ranged-relocations (x ∷ rs) size rest few h r = (
+  record { offset = omega (arith, h .0 .offset); kind = h .0 .kind; aimed = h .0 .aimed; low = h .0 .low; high = h .0 .high },
+  ranged-relocations rs size rest few (h .1) r,
+)
 
 abbrev Lawful : Option Body → Type 0
 Lawful None = Unit {0}
@@ -37,10 +38,11 @@ Lawful (Some b) = Lawful-body Free b
 ranged-sections : (s : ℕ) (bs : List (Option Body)) (rest : List Entry) → s + length bs ≤ 1024 → All Lawful bs → All Ranged rest → All Ranged (with-sections s bs rest)
 ranged-sections s [] rest few h r = r
 ranged-sections s (None ∷ bs) rest few h r = ranged-sections (suc s) bs rest (omega arith) (h .1) r
-ranged-sections s (Some b ∷ bs) rest few h r =
-    ( (omega arith, record { flags = h .0 .flags; alignment = h .0 .alignment; size = h .0 .size; relocations = h .0 .few })
-    , ranged-bytes (length (b .bytes)) (b .bytes) _ (h .0 .bytes)
-        (ranged-relocations (b .relocations) (length (b .bytes)) _ (h .0 .size) (h .0 .relocations) (ranged-sections (suc s) bs rest (omega arith) (h .1) r)) )
+ranged-sections s (Some b ∷ bs) rest few h r = (
+  (omega arith, record { flags = h .0 .flags; alignment = h .0 .alignment; size = h .0 .size; relocations = h .0 .few }),
+  ranged-bytes (length (b .bytes)) (b .bytes) _ (h .0 .bytes)
+      (ranged-relocations (b .relocations) (length (b .bytes)) _ (h .0 .size) (h .0 .relocations) (ranged-sections (suc s) bs rest (omega arith) (h .1) r)),
+)
 
 ranged-roots : (ts : List ℕ) (rest : List Entry) → All Free ts → All Ranged rest → All Ranged (with-roots ts rest)
 ranged-roots [] rest h r = r
@@ -57,8 +59,9 @@ lawful-of (Some b) h = h b refl
 
 pub ranged-entries : (g : Graph) → Formed g → All Ranged (entries g)
 ranged-entries g v =
-    let few : present-count (g .sections) ≤ 1024 = omega (arith, count-below (g .sections), v .few) in
-    ( (v .few, v .few-roots)
-    , ranged-sections 0 (g .sections) _ (omega (arith, v .few))
-        (all-from-getD Lawful (g .sections) None (λ s h. lawful-of (section-of g s) (v .bodies s)))
-        (ranged-roots (g .roots) _ (v .rooted) (few, tt)) )
+    let few : present-count (g .sections) ≤ 1024 = omega (arith, count-below (g .sections), v .few) in (
+      (v .few, v .few-roots),
+      ranged-sections 0 (g .sections) _ (omega (arith, v .few))
+          (all-from-getD Lawful (g .sections) None (λ s h. lawful-of (section-of g s) (v .bodies s)))
+          (ranged-roots (g .roots) _ (v .rooted) (few, tt)),
+    )

@@ -1,3 +1,4 @@
 pub mod Layout
 pub mod Order
 pub mod Reading
+pub mod Verdict

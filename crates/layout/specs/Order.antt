@@ -24,47 +24,51 @@ opened n k =
 
 abbrev pub after-section : Due → ℕ → Record → Due
 after-section d s r =
-    record
-      { sections = d .sections
-      ; next = suc s
-      ; seen = suc (d .seen)
-      ; roots = d .roots
-      ; size = r .size
-      ; bytes = r .size
-      ; relocations = r .relocations }
+    record {
+      sections = d .sections;
+      next = suc s;
+      seen = suc (d .seen);
+      roots = d .roots;
+      size = r .size;
+      bytes = r .size;
+      relocations = r .relocations;
+    }
 
 abbrev pub after-bytes : Due → ℕ → Due
 after-bytes d k =
-    record
-      { sections = d .sections
-      ; next = d .next
-      ; seen = d .seen
-      ; roots = d .roots
-      ; size = d .size
-      ; bytes = d .bytes - k
-      ; relocations = d .relocations }
+    record {
+      sections = d .sections;
+      next = d .next;
+      seen = d .seen;
+      roots = d .roots;
+      size = d .size;
+      bytes = d .bytes - k;
+      relocations = d .relocations;
+    }
 
 abbrev pub after-relocation : Due → Due
 after-relocation d =
-    record
-      { sections = d .sections
-      ; next = d .next
-      ; seen = d .seen
-      ; roots = d .roots
-      ; size = d .size
-      ; bytes = d .bytes
-      ; relocations = d .relocations - 1 }
+    record {
+      sections = d .sections;
+      next = d .next;
+      seen = d .seen;
+      roots = d .roots;
+      size = d .size;
+      bytes = d .bytes;
+      relocations = d .relocations - 1;
+    }
 
 abbrev pub after-root : Due → Due
 after-root d =
-    record
-      { sections = d .sections
-      ; next = d .sections
-      ; seen = d .seen
-      ; roots = d .roots - 1
-      ; size = d .size
-      ; bytes = d .bytes
-      ; relocations = d .relocations }
+    record {
+      sections = d .sections;
+      next = d .sections;
+      seen = d .seen;
+      roots = d .roots - 1;
+      size = d .size;
+      bytes = d .bytes;
+      relocations = d .relocations;
+    }
 
 -- what a row leads to, if it may come now:
 -- sections ascend and are below the count; the bytes of a section come sixteen a row, the last row the rest, before its
@@ -78,9 +82,9 @@ step-open d (bytes bs) =
     cond (eqb (length bs) (min 16 (d .bytes))) (Some (Open (after-bytes d (length bs)))) None
 step-open d (relocation r) =
     cond
-      (eqb (d .bytes) 0 && (ltb 0 (d .relocations) && ltb (r .offset) (d .size)))
-      (Some (Open (after-relocation d)))
-      None
+    (eqb (d .bytes) 0 && (ltb 0 (d .relocations) && ltb (r .offset) (d .size)))
+    (Some (Open (after-relocation d)))
+    None
 step-open d (root t) = cond (settled d && ltb 0 (d .roots)) (Some (Open (after-root d))) None
 step-open d (end k) = cond (settled d && (eqb (d .roots) 0 && eqb k (d .seen))) (Some Done) None
 
@@ -121,35 +125,39 @@ pub record Parts : Type 0 where
 
 abbrev pub body-of : Record → Parts → Body
 body-of r p =
-    record
-      { flags = r .flags
-      ; alignment = r .alignment
-      ; bytes = p .bytes
-      ; setting = r .setting
-      ; relocations = p .relocations }
+    record {
+      flags = r .flags;
+      alignment = r .alignment;
+      bytes = p .bytes;
+      setting = r .setting;
+      relocations = p .relocations;
+    }
 
 abbrev pub told-by : Entry → Parts → Parts
 told-by (header n k) p = p
 told-by (section s r) p =
     record { bytes = []; relocations = []; sections = (s, body-of r p) ∷ p .sections; roots = p .roots }
 told-by (bytes bs) p =
-    record
-      { bytes = bs ++ p .bytes
-      ; relocations = p .relocations
-      ; sections = p .sections
-      ; roots = p .roots }
+    record {
+      bytes = bs ++ p .bytes;
+      relocations = p .relocations;
+      sections = p .sections;
+      roots = p .roots;
+    }
 told-by (relocation r) p =
-    record
-      { bytes = p .bytes
-      ; relocations = r ∷ p .relocations
-      ; sections = p .sections
-      ; roots = p .roots }
+    record {
+      bytes = p .bytes;
+      relocations = r ∷ p .relocations;
+      sections = p .sections;
+      roots = p .roots;
+    }
 told-by (root t) p =
-    record
-      { bytes = p .bytes
-      ; relocations = p .relocations
-      ; sections = p .sections
-      ; roots = t ∷ p .roots }
+    record {
+      bytes = p .bytes;
+      relocations = p .relocations;
+      sections = p .sections;
+      roots = t ∷ p .roots;
+    }
 told-by (end k) p = p
 
 abbrev pub parts : List Entry → Parts

@@ -23,10 +23,10 @@ module _ {S : Type 0} (step : S → List ℕ → Option S) (final : S → Bool) 
   not-before (suc k) (l ∷ ls) (u ∷ us) q j e a r =
       let same : l ≡ u = cc in
       go (step q l) j r (subst (λ (x : List ℕ). after (verdict step final us) (step q x) ≡ None) (sym same) a)
-        (λ p i h m. not-before k ls us p i (let f : take k ls ≡ take k us = cc in f) h m)
+      (λ p i h m. not-before k ls us p i (let f : take k ls ≡ take k us = cc in f) h m)
     where
       go : (o : Option S) (i : ℕ) → after (verdict step final ls) o ≡ Some i → after (verdict step final us) o ≡ None
-        → ((p : S) (m : ℕ) → verdict step final us p ≡ None → verdict step final ls p ≡ Some m → k ≤ m) → suc k ≤ i
+          → ((p : S) (m : ℕ) → verdict step final us p ≡ None → verdict step final ls p ≡ Some m → k ≤ m) → suc k ≤ i
       go None i h n deeper = absurd (let z : _≡_ {A = ℕ} 0 1 = cc in omega arith)
       go (Some p) i h n deeper = behind (verdict step final ls p) (verdict step final us p) refl refl h n
         where
@@ -45,7 +45,7 @@ module _ {S : Type 0} (step : S → List ℕ → Option S) (final : S → Bool) 
   place-is at (l ∷ ls) q = go (step q l) (λ p. place-is (at + length l) ls p)
     where
       go : (o : Option S) → ((p : S) → place-from step final (at + length l) ls p ≡ mapped (λ k. (at + length l) + row-start ls k) (verdict step final ls p))
-        → placed-after at (place-from step final (at + length l) ls) o ≡ mapped (λ k. at + row-start (l ∷ ls) k) (after (verdict step final ls) o)
+          → placed-after at (place-from step final (at + length l) ls) o ≡ mapped (λ k. at + row-start (l ∷ ls) k) (after (verdict step final ls) o)
       go None deeper = ap (λ (n : ℕ). Some n) (sym (add-zero at))
       go (Some p) deeper = deeper p ∙ behind (verdict step final ls p)
         where

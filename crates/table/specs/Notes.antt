@@ -1,0 +1,56 @@
+-- What the reader of a table notes while it checks the text: where the row of each present section begins.
+use Prim.Native.Nat.{ℕ, zero, suc, _+_}
+use mathlib.Core.Bool.{Bool, cond}
+use mathlib.Core.List.{List, [], _∷_}
+use lib.ListN.{length, set, replicate}
+use Rattle.std.specs.declared.option.Option.{Option}
+use Rattle.std.specs.declared.option.Option.the-variants.{None, Some}
+use Rattle.std.specs.declared.result.Result.{Result}
+use Rattle.std.specs.declared.result.Result.the-variants.{Ok, Err}
+use Rattle.fault.specs.declared.Fault.{Fault}
+use Rattle.lines.specs.Lines.{lines}
+use Rattle.row.specs.declared.Cause.{Cause}
+use Rattle.row.specs.Entry.{Entry, header, section, bytes, relocation, root, end}
+use Rattle.row.specs.Reading.{read-row}
+use Rattle.layout.specs.declared.State.{State}
+use Rattle.layout.specs.declared.State.the-variants.{Start}
+use Rattle.layout.specs.Order.{is-done}
+use Rattle.layout.specs.Reading.{step-line, bad-row-at}
+
+-- the place of a section's row, at the section's number
+abbrev pub note-entry : Entry → ℕ → List ℕ → List ℕ
+note-entry (header n k) at xs = xs
+note-entry (section s r) at xs = set xs s at
+note-entry (bytes bs) at xs = xs
+note-entry (relocation r) at xs = xs
+note-entry (root t) at xs = xs
+note-entry (end k) at xs = xs
+
+abbrev pub note : Result Entry Cause → ℕ → List ℕ → List ℕ
+note (Ok e) at xs = note-entry e at xs
+note (Err c) at xs = xs
+
+-- the notes on some rows that begin at `at`, added to earlier ones
+abbrev pub noted : ℕ → List (List ℕ) → List ℕ → List ℕ
+noted at [] xs = xs
+noted at (l ∷ ls) xs = noted (at + length l) ls (note (read-row l) at xs)
+
+-- no row: the first row of a text is no section's, so 0 is no place of one
+abbrev pub no-notes : List ℕ
+no-notes = replicate 1024 0
+
+abbrev pub starts-of : List ℕ → List ℕ
+starts-of t = noted 0 (lines t) no-notes
+
+abbrev pub scan-after : ℕ → (State → Result (List ℕ) Fault) → Option State → Result (List ℕ) Fault
+scan-after at rest None = Err (bad-row-at at)
+scan-after at rest (Some q) = rest q
+
+-- the rows from `at` on, checked and noted: all notes, or the refusal of the first row that does not form
+abbrev pub scan-from : ℕ → List (List ℕ) → State → List ℕ → Result (List ℕ) Fault
+scan-from at [] q xs = cond (is-done q) (Ok xs) (Err (bad-row-at at))
+scan-from at (l ∷ ls) q xs =
+    scan-after at (λ p. scan-from (at + length l) ls p (note (read-row l) at xs)) (step-line q l)
+
+abbrev pub scanned : List ℕ → Result (List ℕ) Fault
+scanned t = scan-from 0 (lines t) Start no-notes
