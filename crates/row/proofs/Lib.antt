@@ -1,0 +1,4 @@
+pub mod Powers
+pub mod Bytes
+pub mod Parts
+pub mod Rows
