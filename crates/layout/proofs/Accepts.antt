@@ -69,21 +69,21 @@ abbrev Offsets : Option Body → Type 0
 Offsets None = Unit {0}
 Offsets (Some b) = All (λ y. y .offset < length (b .bytes)) (b .relocations)
 
-run-sections : (bs : List (Option Body)) (ts : List ℕ) (s n x seen z total : ℕ) → x ≤ s → s + length bs ≤ n → All Offsets bs → seen + present-count bs ≡ total
+run-sections : (bs : List (Option Body)) (ts : List ℕ) (s n x seen z total : ℕ) → seen ≤ x → x ≤ s → s + length bs ≤ n → All Offsets bs → seen + present-count bs ≡ total
     → run (with-sections s bs (with-roots ts (end total ∷ []))) (Open (due n x seen (length ts) z 0 0)) ≡ true
-run-sections [] ts s n x seen z total low fits h e =
+run-sections [] ts s n x seen z total behind low fits h e =
     let same : seen ≡ total = omega arith in
     ap (λ (k : ℕ). run (with-roots ts (end k ∷ [])) (Open (due n x seen (length ts) z 0 0))) (sym same) ∙ run-roots ts n x seen z
-run-sections (None ∷ bs) ts s n x seen z total low fits h e =
-    run-sections bs ts (suc s) n x seen z total (omega arith) (omega arith) (h .1) e
-run-sections (Some b ∷ bs) ts s n x seen z total low fits h e =
+run-sections (None ∷ bs) ts s n x seen z total behind low fits h e =
+    run-sections bs ts (suc s) n x seen z total behind (omega arith) (omega arith) (h .1) e
+run-sections (Some b ∷ bs) ts s n x seen z total behind low fits h e =
     let rest : List Entry = with-sections (suc s) bs (with-roots ts (end total ∷ [])) in
     let size : ℕ = length (b .bytes) in
     run-step (with-bytes size (b .bytes) (with-relocations (b .relocations) rest)) _ (Open (due n (suc s) (suc seen) (length ts) size size (length (b .relocations))))
-    (and-from _ _ refl (and-from _ _ (le-leb _ _ low) (lt-ltb _ _ (omega arith))))
+    (and-from _ _ refl (and-from _ _ (lt-ltb _ _ (omega arith)) (and-from _ _ (le-leb _ _ low) (lt-ltb _ _ (omega arith)))))
     ∙ run-bytes size (b .bytes) (with-relocations (b .relocations) rest) n (suc s) (suc seen) (length ts) size (length (b .relocations)) (omega arith)
     ∙ run-relocations (b .relocations) rest n (suc s) (suc seen) (length ts) size (h .0)
-    ∙ run-sections bs ts (suc s) n (suc s) (suc seen) size total (omega arith) (omega arith) (h .1) (omega arith)
+    ∙ run-sections bs ts (suc s) n (suc s) (suc seen) size total (omega arith) (omega arith) (omega arith) (h .1) (omega arith)
 
 offsets-of : (o : Option Body) → ((b : Body) → o ≡ Some b → Lawful-body Free b) → Offsets o
 offsets-of None h = tt
@@ -91,6 +91,6 @@ offsets-of (Some b) h = all-weaker _ (λ y. y .offset < length (b .bytes)) (λ y
 
 pub accepts : (g : Graph) → Formed g → run (entries g) Start ≡ true
 accepts g v =
-    run-sections (g .sections) (g .roots) 0 (length (g .sections)) 0 0 0 (present-count (g .sections)) (omega arith) (omega arith)
+    run-sections (g .sections) (g .roots) 0 (length (g .sections)) 0 0 0 (present-count (g .sections)) (omega arith) (omega arith) (omega arith)
     (all-from-getD Offsets (g .sections) None (λ s h. offsets-of (section-of g s) (v .bodies s)))
     (omega arith)

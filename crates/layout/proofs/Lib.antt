@@ -5,3 +5,4 @@ pub mod Back
 pub mod Ranges
 pub mod Aims
 pub mod Texts
+pub mod Steps

@@ -117,11 +117,11 @@ record-back m p e f i =
     record { flags = m .flags; alignment = m .alignment; size = e i; relocations = f i; setting = m .setting }
 
 section-rest : (s : ℕ) (m : Record) (es : List Entry) (d : Due) → Ranged (section s m)
-    → (settled d && (leb (d .next) s && ltb s (d .sections))) ≡ true → Rest (after-section d s m) es → Rest d (section s m ∷ es)
+    → (settled d && (ltb (d .seen) (d .sections) && (leb (d .next) s && ltb s (d .sections)))) ≡ true → Rest (after-section d s m) es → Rest d (section s m ∷ es)
 section-rest s m es d r b t =
     let now = and-parts _ _ b in
     let none = nothing-due d (now .0) in
-    let range = and-parts _ _ (now .1) in
+    let range = and-parts _ _ (and-parts _ _ (now .1) .1) in
     record {
       bytes = sym (none .0);
       values = tt;
