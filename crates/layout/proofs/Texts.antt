@@ -45,7 +45,7 @@ row-itself e r = ap read-row (sym (append-nil (render e))) ∙ row-reads e r []
 pub lines-render : (e : Entry) → Ranged e → (t : List ℕ) → lines (render e ++ t) ≡ render e ∷ lines t
 lines-render e r t = lines-row (letter e ∷ columns (width e) (numbers e)) t (render-plain e r)
 
-line-exact : (l : List ℕ) (e : Entry) → One-row l → read-row l ≡ Ok e → l ≡ render e
+pub line-exact : (l : List ℕ) (e : Entry) → One-row l → read-row l ≡ Ok e → l ≡ render e
 line-exact l e o h =
     let p = row-only l e h in
     let rest : drop (length (render e)) l ≡ [] = one-row-ends (letter e ∷ columns (width e) (numbers e)) _ (subst One-row (p .1) o) in

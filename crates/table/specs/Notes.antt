@@ -1,8 +1,9 @@
 -- What the reader of a table notes while it checks the text: where the row of each present section begins.
-use Prim.Native.Nat.{ℕ, zero, suc, _+_}
+use Prim.Native.Nat.{ℕ, zero, suc, _+_, _≤_, _<_}
+use mathlib.Core.Path.{_≡_}
 use mathlib.Core.Bool.{Bool, cond}
 use mathlib.Core.List.{List, [], _∷_}
-use lib.ListN.{length, set, replicate}
+use lib.ListN.{length, set, replicate, drop}
 use Rattle.std.specs.declared.option.Option.{Option}
 use Rattle.std.specs.declared.option.Option.the-variants.{None, Some}
 use Rattle.std.specs.declared.result.Result.{Result}
@@ -54,3 +55,12 @@ scan-from at (l ∷ ls) q xs =
 
 abbrev pub scanned : List ℕ → Result (List ℕ) Fault
 scanned t = scan-from 0 (lines t) Start no-notes
+
+-- what taking the row at `at` comes to: it is refused there, or the rows behind it decide
+abbrev pub Takes : List ℕ → ℕ → State → List ℕ → List ℕ → Option (State × ℕ) → Type 0
+Takes t at q xs ys None = scan-from at (lines (drop at t)) q xs ≡ Err (bad-row-at at)
+Takes t at q xs ys (Some next) =
+    (scan-from at (lines (drop at t)) q xs ≡ scan-from (next .1) (lines (drop (next .1) t)) (next .0) ys)
+    × (at < next .1)
+    × (next .1 ≤ length t)
+    × (length ys ≡ length xs)

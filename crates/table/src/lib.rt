@@ -1,1 +1,2 @@
-// Section tables.
+// Section tables: reading them, and answering every question about them from the text as it came.
+mod scan;
