@@ -78,9 +78,9 @@ abbrev pub step-open : Due → Entry → Option State
 step-open d (header n k) = None
 step-open d (section s r) =
     cond
-      (settled d && (ltb (d .seen) (d .sections) && (leb (d .next) s && ltb s (d .sections))))
-      (Some (Open (after-section d s r)))
-      None
+    (settled d && (ltb (d .seen) (d .sections) && (leb (d .next) s && ltb s (d .sections))))
+    (Some (Open (after-section d s r)))
+    None
 step-open d (bytes bs) =
     cond (eqb (length bs) (min 16 (d .bytes))) (Some (Open (after-bytes d (length bs)))) None
 step-open d (relocation r) =

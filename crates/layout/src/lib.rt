@@ -131,7 +131,11 @@ fn begin(row: &Row<'_>) -> Option<State>
     ensures { λ r. ⌜ r ≡ step-start (told (now (row .entry))) ⌝ }
 {
     match row {
-        Row::Header { sections, roots, .. } => Some(State::Open(Due {
+        Row::Header {
+            sections,
+            roots,
+            ..
+        } => Some(State::Open(Due {
             sections: *sections,
             next: 0,
             seen: 0,
@@ -180,5 +184,4 @@ impl State {
 // Graphs with the same table are the same.
 pub fn tables_differ()
     ensures { λ _. ⌜ Told-apart ⌝ }
-{
-}
+{}

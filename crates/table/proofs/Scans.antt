@@ -19,9 +19,9 @@ use Rattle.row.specs.Reading.{read-row}
 use Rattle.row.proofs.Rows.{row-reads, row-only}
 use Rattle.layout.specs.declared.State.{State}
 use Rattle.layout.specs.Order.{step, is-done}
-use Rattle.layout.specs.Reading.{step-read, step-line, bad-row-at}
+use Rattle.layout.specs.Reading.{step-read, step-line, named, bad-row-at}
 use Rattle.layout.proofs.Texts.{row-itself, lines-render, line-exact}
-use Rattle.table.specs.Notes.{note-entry, note, scan-from, scan-after}
+use Rattle.table.specs.Notes.{note-entry, note, scan-from, scan-after, unnoted, loose-on, loose-from}
 
 -- the row that a text begins with is its first line
 pub first-taken : (t : List ℕ) (e : Entry) → read-row t ≡ Ok e → lines t ≡ render e ∷ lines (drop (length (render e)) t)
@@ -31,14 +31,14 @@ first-taken t e h =
 
 -- where a text begins with no row, its first line is none
 pub first-refused : (t : List ℕ) (c : Cause) → 0 < length t → read-row t ≡ Err c
-    → (l : List ℕ) × (ls : List (List ℕ)) × (lines t ≡ l ∷ ls) × ((q : State) → step-line q l ≡ None)
+    → (l : List ℕ) × (ls : List (List ℕ)) × (lines t ≡ l ∷ ls) × ((d : Cause) × (read-row l ≡ Err d))
 first-refused t c some h =
     let f = first-row t some in
-    (f .0, f .1, f .2, λ q. go q (f .0) (f .1) (f .2) (read-row (f .0)) refl)
+    (f .0, f .1, f .2, go (f .0) (f .1) (f .2) (read-row (f .0)) refl)
   where
-    go : (q : State) (l : List ℕ) (ls : List (List ℕ)) → lines t ≡ l ∷ ls → (x : Result Entry Cause) → read-row l ≡ x → step-read q x ≡ None
-    go q l ls f (Err d) x = refl
-    go q l ls f (Ok e) x =
+    go : (l : List ℕ) (ls : List (List ℕ)) → lines t ≡ l ∷ ls → (x : Result Entry Cause) → read-row l ≡ x → (d : Cause) × (x ≡ Err d)
+    go l ls f (Err d) x = (d, refl)
+    go l ls f (Ok e) x =
         let one : One-row l = subst (λ (ys : List (List ℕ)). Rattle.std.specs.shelf.Lists.All One-row ys) f (one-lines t) .0 in
         let text : t ≡ render e ++ whole ls = sym (whole-lines t) ∙ ap whole f ∙ ap (λ (y : List ℕ). y ++ whole ls) (line-exact l e one x) in
         let read : read-row t ≡ Ok e = ap read-row text ∙ row-reads e (row-only l e x .0) (whole ls) in
@@ -50,12 +50,12 @@ refused-row t at q xs c inside h =
     let some : 0 < length (drop at t) = simp length-drop (omega arith) in
     let f = first-refused (drop at t) c some h in
     ap (λ (ls : List (List ℕ)). scan-from at ls q xs) (f .2)
-    ∙ ap (scan-after at (λ p. scan-from (at + length (f .0)) (f .1) p (note (read-row (f .0)) at xs))) (f .3 q)
+    ∙ ap (scan-after at (λ p. scan-from (at + length (f .0)) (f .1) p (note (read-row (f .0)) at xs))) (ap (step-read q) (f .3 .1))
 
 -- the rows from a row on that is there, by what it tells
 scan-row : (t : List ℕ) (at : ℕ) (q : State) (xs : List ℕ) (e : Entry) → read-row (drop at t) ≡ Ok e
     → scan-from at (lines (drop at t)) q xs
-      ≡ scan-after at (λ p. scan-from (at + length (render e)) (lines (drop (at + length (render e)) t)) p (note-entry e at xs)) (step q e)
+    ≡ scan-after at (λ p. scan-from (at + length (render e)) (lines (drop (at + length (render e)) t)) p (note-entry e at xs)) (step q e)
 scan-row t at q xs e h =
     let w : ℕ = length (render e) in
     let own : read-row (render e) ≡ Ok e = row-itself e (row-only (drop at t) e h .0) in
@@ -84,12 +84,34 @@ row-fits t at e h =
 
 pub taken-row : (t : List ℕ) (at : ℕ) (q : State) (xs : List ℕ) (e : Entry) (p : State) → read-row (drop at t) ≡ Ok e → step q e ≡ Some p
     → (scan-from at (lines (drop at t)) q xs ≡ scan-from (at + length (render e)) (lines (drop (at + length (render e)) t)) p (note-entry e at xs))
-      × (at < at + length (render e)) × (at + length (render e) ≤ length t) × (length (note-entry e at xs) ≡ length xs)
+    × (at < at + length (render e)) × (at + length (render e) ≤ length t) × (length (note-entry e at xs) ≡ length xs)
 taken-row t at q xs e p h s =
-    let f = row-fits t at e h in
-    ( scan-row t at q xs e h
-      ∙ ap (scan-after at (λ p. scan-from (at + length (render e)) (lines (drop (at + length (render e)) t)) p (note-entry e at xs))) s
-    , f .0, f .1, length-note e at xs )
+    let f = row-fits t at e h in (
+      scan-row t at q xs e h
+          ∙ ap (scan-after at (λ p. scan-from (at + length (render e)) (lines (drop (at + length (render e)) t)) p (note-entry e at xs))) s,
+      f .0,
+      f .1,
+      length-note e at xs,
+    )
 
 pub scan-end : (t : List ℕ) (at : ℕ) (q : State) (xs : List ℕ) → length t ≤ at → scan-from at (lines (drop at t)) q xs ≡ cond (is-done q) (Ok xs) (Err (bad-row-at at))
 scan-end t at q xs h = ap (λ (u : List ℕ). scan-from at (lines u) q xs) (drop-all at t h)
+
+-- the second walk
+
+pub loose-refused : (xs t : List ℕ) (at : ℕ) (c : Cause) → at < length t → read-row (drop at t) ≡ Err c → loose-from xs at (lines (drop at t)) ≡ None
+loose-refused xs t at c inside h =
+    let some : 0 < length (drop at t) = simp length-drop (omega arith) in
+    let f = first-refused (drop at t) c some h in
+    ap (loose-from xs at) (f .2) ∙ ap (loose-on xs at (loose-from xs (at + length (f .0)) (f .1))) (f .3 .1)
+
+pub loose-row : (xs t : List ℕ) (at : ℕ) (e : Entry) → read-row (drop at t) ≡ Ok e
+    → loose-from xs at (lines (drop at t)) ≡ cond (unnoted xs (named e)) (Some at) (loose-from xs (at + length (render e)) (lines (drop (at + length (render e)) t)))
+loose-row xs t at e h =
+    let w : ℕ = length (render e) in
+    let own : read-row (render e) ≡ Ok e = row-itself e (row-only (drop at t) e h .0) in
+    ap (loose-from xs at) (first-taken (drop at t) e h ∙ ap (λ (u : List ℕ). render e ∷ lines u) (drop-drop w at t))
+    ∙ ap (loose-on xs at (loose-from xs (at + w) (lines (drop (at + w) t)))) own
+
+pub loose-end : (xs t : List ℕ) (at : ℕ) → length t ≤ at → loose-from xs at (lines (drop at t)) ≡ None
+loose-end xs t at h = ap (λ (u : List ℕ). loose-from xs at (lines u)) (drop-all at t h)

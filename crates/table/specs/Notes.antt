@@ -1,9 +1,10 @@
 -- What the reader of a table notes while it checks the text: where the row of each present section begins.
 use Prim.Native.Nat.{ℕ, zero, suc, _+_, _≤_, _<_}
 use mathlib.Core.Path.{_≡_}
-use mathlib.Core.Bool.{Bool, cond}
+use mathlib.Core.Bool.{Bool, false, cond}
+use lib.Dec.{eqb}
 use mathlib.Core.List.{List, [], _∷_}
-use lib.ListN.{length, set, replicate, drop}
+use lib.ListN.{length, getD, set, replicate, drop}
 use Rattle.std.specs.declared.option.Option.{Option}
 use Rattle.std.specs.declared.option.Option.the-variants.{None, Some}
 use Rattle.std.specs.declared.result.Result.{Result}
@@ -16,7 +17,7 @@ use Rattle.row.specs.Reading.{read-row}
 use Rattle.layout.specs.declared.State.{State}
 use Rattle.layout.specs.declared.State.the-variants.{Start}
 use Rattle.layout.specs.Order.{is-done}
-use Rattle.layout.specs.Reading.{step-line, bad-row-at}
+use Rattle.layout.specs.Reading.{step-line, named, bad-row-at}
 
 -- the place of a section's row, at the section's number
 abbrev pub note-entry : Entry → ℕ → List ℕ → List ℕ
@@ -64,3 +65,17 @@ Takes t at q xs ys (Some next) =
     × (at < next .1)
     × (next .1 ≤ length t)
     × (length ys ≡ length xs)
+
+-- a section that a row names has no start
+abbrev pub unnoted : List ℕ → Option ℕ → Bool
+unnoted xs None = false
+unnoted xs (Some t) = eqb (getD xs t 0) 0
+
+abbrev pub loose-on : List ℕ → ℕ → Option ℕ → Result Entry Cause → Option ℕ
+loose-on xs at rest (Ok e) = cond (unnoted xs (named e)) (Some at) rest
+loose-on xs at rest (Err c) = None
+
+-- the place of the first row from `at` on that names a section without a start
+abbrev pub loose-from : List ℕ → ℕ → List (List ℕ) → Option ℕ
+loose-from xs at [] = None
+loose-from xs at (l ∷ ls) = loose-on xs at (loose-from xs (at + length l) ls) (read-row l)

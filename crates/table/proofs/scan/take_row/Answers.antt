@@ -20,15 +20,15 @@ returns-in-rest c =
 pub returns-in-rest-advance : need.returns-in-rest-advance
 returns-in-rest-advance c =
     let read : read-row (drop (c .args .at) (c .args .text .now)) ≡ Ok (told (c .in-Ok .row)) =
-        ap read-row (sym (take-rest (c .args .text .now) (c .args .at))) ∙ sym (c .in-Ok .ensures tt .row) in
+    ap read-row (sym (take-rest (c .args .text .now) (c .args .at))) ∙ sym (c .in-Ok .ensures tt .row) in
     refused-step (c .args .text .now) (c .args .at) (c .args .state .now) (c .args .starts .now) (told (c .in-Ok .row)) read
     (sym (c .advance .ensures) ∙ c .in-rest-advance .is)
 
 pub returns : need.returns
 returns c =
     let read : read-row (drop (c .args .at) (c .args .text .now)) ≡ Ok (told (c .in-Ok .row)) =
-        ap read-row (sym (take-rest (c .args .text .now) (c .args .at))) ∙ sym (c .in-Ok .ensures tt .row) in
+    ap read-row (sym (take-rest (c .args .text .now) (c .args .at))) ∙ sym (c .in-Ok .ensures tt .row) in
     let wide : c .width .result ≡ length (render (told (c .in-Ok .row))) = c .width .ensures ∙ ap length (c .in-Ok .ensures tt .part) in
     rw (wide, c .note .ensures)
     (taken-row (c .args .text .now) (c .args .at) (c .args .state .now) (c .args .starts .now) (told (c .in-Ok .row)) (c .in-Some .next) read
-      (sym (c .advance .ensures) ∙ c .in-Some .is))
+    (sym (c .advance .ensures) ∙ c .in-Some .is))
