@@ -48,7 +48,7 @@ ranged-roots : (ts : List ℕ) (rest : List Entry) → All Free ts → All Range
 ranged-roots [] rest h r = r
 ranged-roots (t ∷ ts) rest h r = (h .0, ranged-roots ts rest (h .1) r)
 
-count-below : (bs : List (Option Body)) → present-count bs ≤ length bs
+pub count-below : (bs : List (Option Body)) → present-count bs ≤ length bs
 count-below [] = omega arith
 count-below (None ∷ bs) = omega (arith, count-below bs)
 count-below (Some b ∷ bs) = omega (arith, count-below bs)

@@ -1,3 +1,5 @@
 pub mod Spots
 pub mod Places
 pub mod Scans
+pub mod Questions
+pub mod Outcomes

@@ -75,7 +75,7 @@ length-short n some few =
     ∙ ap (λ (b : Bool). 66 * 0 + cond b 0 (2 + 4 * n)) (ne-eqb n 0 apart)
     ∙ omega arith
 
-past-bytes : (m : ℕ) (t : List ℕ) (at : ℕ) (bs : List ℕ) (rest : List Entry) → length bs ≤ m → All (λ b. b < 2 ^ 8) bs → Stands t at (with-bytes (length bs) bs rest)
+pub past-bytes : (m : ℕ) (t : List ℕ) (at : ℕ) (bs : List ℕ) (rest : List Entry) → length bs ≤ m → All (λ b. b < 2 ^ 8) bs → Stands t at (with-bytes (length bs) bs rest)
     → Stands t (at + bytes-length (length bs)) rest
 past-bytes m t at [] rest few h s = subst (λ (p : ℕ). Stands t p rest) (sym (add-zero at)) s
 past-bytes zero t at (b ∷ bs) rest few h s = absurd (omega arith)
@@ -98,7 +98,7 @@ past-bytes (suc m) t at (b ∷ bs) rest few h s =
         ap (λ (x : ℕ). (at + (2 + 4 * length (take 16 (b ∷ bs)))) + bytes-length x) left
         ∙ omega (arith, length-full (length (b ∷ bs)) full)
 
-byte-spot : (m : ℕ) (t : List ℕ) (at : ℕ) (bs : List ℕ) (rest : List Entry) (i : ℕ) → length bs ≤ m → i < length bs → All (λ b. b < 2 ^ 8) bs → Stands t at (with-bytes (length bs) bs rest)
+pub byte-spot : (m : ℕ) (t : List ℕ) (at : ℕ) (bs : List ℕ) (rest : List Entry) (i : ℕ) → length bs ≤ m → i < length bs → All (λ b. b < 2 ^ 8) bs → Stands t at (with-bytes (length bs) bs rest)
     → read-column (take 4 (drop (at + (66 * (i / 16) + (1 + 4 * (i % 16)))) t)) ≡ Some (pos (getD bs i 0))
 byte-spot zero t at bs rest i few inside h s = absurd (omega arith)
 byte-spot (suc m) t at bs rest i few inside h s =
@@ -129,7 +129,7 @@ byte-spot (suc m) t at bs rest i few inside h s =
 
 -- relocations and roots: rows of one length
 
-relocation-spot : (t : List ℕ) (at : ℕ) (rs : List Relocation) (rest : List Entry) (j : ℕ) (r : Relocation) → All (λ x. Ranged (relocation x)) rs → nth rs j ≡ Some r
+pub relocation-spot : (t : List ℕ) (at : ℕ) (rs : List Relocation) (rest : List Entry) (j : ℕ) (r : Relocation) → All (λ x. Ranged (relocation x)) rs → nth rs j ≡ Some r
     → Stands t at (with-relocations rs rest) → read-row (drop (at + 62 * j) t) ≡ Ok (relocation r)
 relocation-spot t at [] rest j r h e s = absurd (let z : _≡_ {A = ℕ} 0 1 = cc in omega arith)
 relocation-spot t at (x ∷ rs) rest zero r h e s =
@@ -141,7 +141,7 @@ relocation-spot t at (x ∷ rs) rest (suc j) r h e s =
     ap (λ (p : ℕ). read-row (drop p t)) place
     ∙ relocation-spot t (at + 62) rs rest j r (h .1) e (stands-after t at (relocation x) _ (h .0) s)
 
-root-spot : (t : List ℕ) (at : ℕ) (ts : List ℕ) (rest : List Entry) (j u : ℕ) → All (λ x. Ranged (root x)) ts → nth ts j ≡ Some u
+pub root-spot : (t : List ℕ) (at : ℕ) (ts : List ℕ) (rest : List Entry) (j u : ℕ) → All (λ x. Ranged (root x)) ts → nth ts j ≡ Some u
     → Stands t at (with-roots ts rest) → read-row (drop (at + 14 * j) t) ≡ Ok (root u)
 root-spot t at [] rest j u h e s = absurd (let z : _≡_ {A = ℕ} 0 1 = cc in omega arith)
 root-spot t at (x ∷ ts) rest zero u h e s =
@@ -160,7 +160,8 @@ roots-length (x ∷ ts) k h e =
     ∙ omega (arith, render-length (root x) (h .0), roots-length ts k (h .1) e)
 
 -- the roots stand at the end of the text
-pub roots-place : (t : List ℕ) (at : ℕ) (ts : List ℕ) (k : ℕ) → All (λ x. Ranged (root x)) ts → Ranged (end k) → Stands t at (with-roots ts (end k ∷ [])) → at ≡ length t - 14 * (length ts + 1)
+pub roots-place : (t : List ℕ) (at : ℕ) (ts : List ℕ) (k : ℕ) → All (λ x. Ranged (root x)) ts → Ranged (end k) → Stands t at (with-roots ts (end k ∷ []))
+    → at + 14 * (length ts + 1) ≡ length t
 roots-place t at ts k h e s =
     let left : length t - at ≡ 14 * (length ts + 1) = sym (length-drop at t) ∙ ap length s ∙ roots-length ts k h e in
     omega arith

@@ -62,11 +62,11 @@ abbrev pub Spot : List ℕ → ℕ → Option Body → ℕ → Type 0
 Spot t u None p = p ≡ 0
 Spot t u (Some b) p = (0 < p) × (rest : List Entry) × Stands t p (with-section u b rest)
 
-record Noted (t : List ℕ) (s : ℕ) (bs : List (Option Body)) (xs ys : List ℕ) : Type 0 where
-  before : (u : ℕ) → u < s → getD ys u 0 ≡ getD xs u 0
-  spots : (i : ℕ) → Spot t (s + i) (getD bs i None) (getD ys (s + i) 0)
+pub record Noted (t : List ℕ) (s : ℕ) (bs : List (Option Body)) (xs ys : List ℕ) : Type 0 where
+  pub before : (u : ℕ) → u < s → getD ys u 0 ≡ getD xs u 0
+  pub spots : (i : ℕ) → Spot t (s + i) (getD bs i None) (getD ys (s + i) 0)
 
-sections-noted : (t : List ℕ) (s : ℕ) (bs : List (Option Body)) (ts : List ℕ) (k at : ℕ) (xs : List ℕ) → 0 < at
+pub sections-noted : (t : List ℕ) (s : ℕ) (bs : List (Option Body)) (ts : List ℕ) (k at : ℕ) (xs : List ℕ) → 0 < at
     → Stands t at (with-sections s bs (with-roots ts (end k ∷ []))) → s + length bs ≤ length xs → ((v : ℕ) → s ≤ v → getD xs v 0 ≡ 0)
     → Noted t s bs xs (notes at (with-sections s bs (with-roots ts (end k ∷ []))) xs)
 sections-noted t s [] ts k at xs pos h fits zeros =
@@ -107,3 +107,13 @@ sections-noted t s (Some b ∷ bs) ts k at xs pos h fits zeros =
         | suc i ↦ subst (λ (u : ℕ). Spot t u (getD bs i None) (getD (notes more rest ys) u 0)) (let e : suc s + i ≡ s + suc i = omega arith in e) (n .spots i)
       ];
     })
+
+-- the rows behind the sections stand somewhere
+pub past-sections : (t : List ℕ) (s : ℕ) (bs : List (Option Body)) (rest : List Entry) (at : ℕ) → Stands t at (with-sections s bs rest) → (to : ℕ) × Stands t to rest
+past-sections t s [] rest at h = (at, h)
+past-sections t s (None ∷ bs) rest at h = past-sections t (suc s) bs rest at h
+past-sections t s (Some b ∷ bs) rest at h =
+    let row : Entry = section s (record-in b) in
+    let p = past-bytes t (length (b .bytes)) (b .bytes) (with-relocations (b .relocations) (with-sections (suc s) bs rest)) (at + length (render row)) [] (stands-next t at row _ h) in
+    let q = past-relocations t (b .relocations) (with-sections (suc s) bs rest) (p .0) [] (p .2) in
+    past-sections t (suc s) bs rest (q .0) (q .2)

@@ -62,40 +62,40 @@ root-told (Ok (root t)) = Some t
 root-told (Ok (end k)) = None
 root-told (Err c) = None
 
--- the record in the row at a section's start; 0 is no start
-abbrev pub record-at : List ℕ → ℕ → Option Record
-record-at t zero = None
-record-at t (suc p) = record-told (read-row (drop (suc p) t))
+-- the text from a section's row on; 0 is no start, and then there is none
+abbrev pub rows-from : List ℕ → ℕ → List ℕ
+rows-from t zero = []
+rows-from t (suc p) = drop (suc p) t
 
 -- how long the rows of n bytes are
 abbrev pub bytes-length : ℕ → ℕ
 bytes-length n = 66 * (n / 16) + cond (eqb (n % 16) 0) 0 (2 + 4 * (n % 16))
 
+-- where the column of byte i is, from the start of a section's row: 74 is the length of that row
+abbrev pub byte-place : ℕ → ℕ
+byte-place i = 74 + (66 * (i / 16) + (1 + 4 * (i % 16)))
+
+-- where the row of relocation j is, behind the rows of n bytes
+abbrev pub relocation-place : ℕ → ℕ → ℕ
+relocation-place n j = (74 + bytes-length n) + 62 * j
+
 -- the byte that a column holds
 abbrev pub byte-told : Option ℤ → Option ℕ
 byte-told None = None
-byte-told (Some (pos n)) = Some n
+byte-told (Some (pos n)) = cond (ltb n 256) (Some n) None
 byte-told (Some (negsuc n)) = None
 
--- byte i of a section, from the section's start and its record
-abbrev pub byte-in : List ℕ → ℕ → Option Record → ℕ → Option ℕ
-byte-in t p None i = None
-byte-in t p (Some r) i =
-    cond
-    (ltb i (r .size))
-    (byte-told (read-column (take 4 (drop ((p + 74) + (66 * (i / 16) + (1 + 4 * (i % 16)))) t))))
-    None
+-- byte i of a section, from its row on and by its record
+abbrev pub byte-in : List ℕ → Option Record → ℕ → Option ℕ
+byte-in u None i = None
+byte-in u (Some r) i = cond (ltb i (r .size)) (byte-told (read-column (take 4 (drop (byte-place i) u)))) None
 
 -- relocation j likewise
-abbrev pub relocation-in : List ℕ → ℕ → Option Record → ℕ → Option Relocation
-relocation-in t p None j = None
-relocation-in t p (Some r) j =
-    cond
-    (ltb j (r .relocations))
-    (relocation-told (read-row (drop ((p + 74) + (bytes-length (r .size) + 62 * j)) t)))
-    None
+abbrev pub relocation-in : List ℕ → Option Record → ℕ → Option Relocation
+relocation-in u None j = None
+relocation-in u (Some r) j =
+    cond (ltb j (r .relocations)) (relocation-told (read-row (drop (relocation-place (r .size) j) u))) None
 
--- root j of k, counted back from the text's end
+-- root j of k: the rows of the roots, and then the last row, are the end of the text, and each is 14 long
 abbrev pub root-in : List ℕ → ℕ → ℕ → Option ℕ
-root-in t k j =
-    cond (ltb j k) (root-told (read-row (drop ((length t - 14 * (k + 1)) + 14 * j) t))) None
+root-in t k j = cond (ltb j k) (root-told (read-row (drop (length t - 14 * ((k - j) + 1)) t))) None

@@ -1,2 +1,5 @@
 // Section tables: reading them, and answering every question about them from the text as it came.
+mod held;
 mod scan;
+
+pub use held::Table;

@@ -1,0 +1,13 @@
+// The reader of a section table.
+ghost use mathlib.Core.Path.{_≡_};
+ghost use mathlib.Core.Bool.{true};
+ghost use Rattle.std.specs.Of.Vec.{vec-items};
+ghost use Rattle.table.specs.Held.{held};
+
+// A section table as it was read, and where the row of each present section begins (0 where it is absent).
+#[derive(Drop)]
+pub struct Table {
+    text: Vec<u8>,
+    starts: [usize; 1024],
+    ghost fit: { held (vec-items text) starts ≡ true },
+}
