@@ -1,5 +1,6 @@
 pub mod Spots
-pub mod Places
+pub mod Distances
 pub mod Scans
 pub mod Questions
 pub mod Outcomes
+pub mod Answering

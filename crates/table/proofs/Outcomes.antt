@@ -114,3 +114,24 @@ accepted-none (Some f) h = absurd (let z : _≡_ {A = ℕ} 0 1 = cc in omega ari
 pub held-cases : (t : List ℕ) → accepted t ≡ true → (t ≡ []) ⊎ (fault-of t ≡ None)
 held-cases [] h = inl refl
 held-cases (b ∷ t) h = inr (accepted-none (fault-of (b ∷ t)) h)
+
+pub examined-ok : (t xs : List ℕ) → examined t ≡ Ok xs → (fault-of t ≡ None) × (xs ≡ starts-of t)
+examined-ok t xs h = go (fault-of t) h
+  where
+    go : (o : Option Fault) → notes-or o (starts-of t) ≡ Ok xs → (o ≡ None) × (xs ≡ starts-of t)
+    go None e = (refl, cc)
+    go (Some f) e = absurd (let z : _≡_ {A = ℕ} 0 1 = cc in omega arith)
+
+pub examined-err : (t : List ℕ) (f : Fault) → examined t ≡ Err f → fault-of t ≡ Some f
+examined-err t f h = go (fault-of t) h
+  where
+    go : (o : Option Fault) → notes-or o (starts-of t) ≡ Err f → o ≡ Some f
+    go None e = absurd (let z : _≡_ {A = ℕ} 0 1 = cc in omega arith)
+    go (Some e) k = let same : e ≡ f = cc in ap (λ (x : Fault). Some x) same
+
+-- what the second walk found, where the notes are those of the first
+pub examined-loose : (t xs : List ℕ) (o : Option ℕ) → scanned t ≡ Ok xs → o ≡ loose-from xs 0 (lines t) → examined t ≡ notes-or (mapped dangling-at o) xs
+examined-loose t xs o h e =
+    let p = scanned-ok t xs h in
+    examined-formed t o (p .0) (e ∙ ap (λ (ys : List ℕ). loose-from ys 0 (lines t)) (p .1))
+    ∙ ap (notes-or (mapped dangling-at o)) (sym (p .1))

@@ -39,7 +39,7 @@ use Rattle.layout.proofs.Aims.{present-below}
 use Rattle.table.specs.Notes.{note, noted, no-notes, starts-of, unnoted, loose-on, loose-from}
 use Rattle.table.specs.Places.{sections-told, roots-told, record-told, relocation-told, root-told, rows-from, bytes-length, byte-place, relocation-place, byte-told, byte-in, relocation-in, root-in}
 use Rattle.table.proofs.Spots.{Stands, stands-next, notes, Spot, Noted, sections-noted, past-sections}
-use Rattle.table.proofs.Places.{stands-read, stands-after, past-bytes, byte-spot, relocation-spot, root-spot, roots-place}
+use Rattle.table.proofs.Distances.{stands-read, stands-after, past-bytes, byte-spot, relocation-spot, root-spot, roots-place}
 
 noted-notes : (at : ℕ) (es : List Entry) (xs : List ℕ) → All Ranged es → noted at (map render es) xs ≡ notes at es xs
 noted-notes at [] xs r = refl

@@ -1,3 +1,4 @@
 pub mod Notes
 pub mod Places
 pub mod Held
+pub mod Meaning

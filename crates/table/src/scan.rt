@@ -7,7 +7,7 @@ ghost use lib.ListN.{length, getD};
 ghost use Rattle.lines.specs.Lines.{lines};
 ghost use Rattle.row.specs.Told.{told, part-of};
 ghost use Rattle.layout.specs.Reading.{aimed, named, bad-row-at};
-ghost use Rattle.table.specs.Notes.{note-entry, scanned, Takes, unnoted, loose-from};
+ghost use Rattle.table.specs.Notes.{no-notes, note-entry, scanned, Takes, unnoted, loose-from};
 use fault::Fault;
 use fault::Kind;
 use fault::Layer;
@@ -38,6 +38,13 @@ fn width(row: &Row<'_>) -> usize
         Row::Root { part, .. } => part.len(),
         Row::End { part, .. } => part.len(),
     }
+}
+
+// No section has a start.
+pub(crate) fn no_starts() -> [usize; 1024]
+    ensures { λ r. ⌜ r ≡ no-notes ⌝ }
+{
+    [0; 1024]
 }
 
 // Notes where a section's row begins.
@@ -73,10 +80,10 @@ fn take_row(
 }
 
 // The starts of the sections' rows, or the refusal of the first row that does not form.
-pub fn scan(text: &[u8]) -> Result<[usize; 1024], Fault>
+pub(crate) fn scan(text: &[u8]) -> Result<[usize; 1024], Fault>
     ensures { λ r. ⌜ r ≡ scanned (now (text .entry)) ⌝ }
 {
-    let mut starts = [0usize; 1024];
+    let mut starts = no_starts();
     let mut state = State::Start;
     let mut at = 0usize;
     while at < text.len() {
@@ -94,7 +101,7 @@ pub fn scan(text: &[u8]) -> Result<[usize; 1024], Fault>
 }
 
 // Where the row of section `s` begins, or 0 where it has none.
-pub fn start(starts: &[usize; 1024], s: u16) -> usize
+pub(crate) fn start(starts: &[usize; 1024], s: u16) -> usize
     ensures { λ r. ⌜ r ≡ getD (now (starts .entry)) s 0 ⌝ }
 {
     let s = usize::from(s);
@@ -131,7 +138,7 @@ fn names_unnoted(row: &Row<'_>, starts: &[usize; 1024]) -> bool
 }
 
 // The place of the first row that names a section without a start.
-pub fn dangling(text: &[u8], starts: &[usize; 1024]) -> Option<usize>
+pub(crate) fn dangling(text: &[u8], starts: &[usize; 1024]) -> Option<usize>
     ensures { λ r. ⌜ r ≡ loose-from (now (starts .entry)) 0 (lines (now (text .entry))) ⌝ }
 {
     let mut at = 0usize;
