@@ -157,6 +157,7 @@ fn write_negative(size: u64, out: &mut [u8]) -> bool
     true
 }
 
+// Fills the slice with the digits, which fit, right-justified.
 fn fill_natural(value: u64, out: &mut [u8])
     requires { ⌜ length (decimal value) ≤ length (now out) ⌝ }
     ensures { λ _. ⌜ now (out .exit) ≡ justified (length (now (out .entry))) (decimal value) ⌝ }
@@ -165,6 +166,7 @@ fn fill_natural(value: u64, out: &mut [u8])
     put_blanks(start, out);
 }
 
+// Fills the slice with a minus and the digits, which fit, right-justified.
 fn fill_negative(size: u64, out: &mut [u8])
     requires { ⌜ length (decimal size) < length (now out) ⌝ }
     ensures { λ _. ⌜ now (out .exit) ≡ justified (length (now (out .entry))) (45 ∷ decimal size) ⌝ }
@@ -199,5 +201,45 @@ fn put_blanks(end: usize, out: &mut [u8])
 {
     for i in 0..end {
         out[i] = b' ';
+    }
+}
+
+#[cfg(test)]
+mod tests {
+    use super::read_column;
+    use super::write_column;
+    use std::test::*;
+
+    #[test]
+    fn reads() -> Result<(), Fail> {
+        check_eq(read_column(b"   0"), Some(0))?;
+        check_eq(read_column(b" -17"), Some(-17))?;
+        check_eq(read_column(b"999999999999999999"), Some(999999999999999999))?;
+        Ok(())
+    }
+
+    #[test]
+    fn refuses() -> Result<(), Fail> {
+        check_eq(read_column(b""), None)?;
+        check_eq(read_column(b"    "), None)?;
+        check_eq(read_column(b"  -0"), None)?;
+        check_eq(read_column(b"  07"), None)?;
+        check_eq(read_column(b"   -"), None)?;
+        check_eq(read_column(b"  7 "), None)?;
+        check_eq(read_column(b"                  7"), None)?;
+        Ok(())
+    }
+
+    #[test]
+    fn writes() -> Result<(), Fail> {
+        let mut wide = [b'x'; 20];
+        check(write_column(i64::MIN, &mut wide))?;
+        check_eq(wide, *b"-9223372036854775808")?;
+        let mut narrow = [b'x'; 4];
+        check(!write_column(-2048, &mut narrow))?;
+        check_eq(narrow, *b"xxxx")?;
+        check(write_column(0, &mut narrow))?;
+        check_eq(narrow, *b"   0")?;
+        Ok(())
     }
 }
