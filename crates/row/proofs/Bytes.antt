@@ -9,9 +9,10 @@ use lib.ListN.{length, getD}
 use Rattle.std.specs.declared.result.Result.{Result}
 use Rattle.std.specs.declared.result.Result.the-variants.{Ok, Err}
 use Rattle.std.proofs.shelf.Tests.{cond-true, cond-false, eq-eqb, ne-eqb}
-use Rattle.row.specs.declared.Cause.{Cause}
-use Rattle.row.specs.declared.Cause.the-variants.{Letter}
-use Rattle.row.specs.Reading.{and-then, natural-at, end-at, counted, more-bytes, row-bytes, read-by}
+use Rattle.row_part.specs.declared.Cause.{Cause}
+use Rattle.row_part.specs.declared.Cause.the-variants.{Letter}
+use Rattle.row_part.specs.Parts.{and-then, natural-at, end-at}
+use Rattle.row.specs.Reading.{counted, more-bytes, row-bytes, read-by}
 
 abbrev pub plus : ℕ → Result ℕ Cause → Result ℕ Cause
 plus k (Ok n) = Ok (k + n)

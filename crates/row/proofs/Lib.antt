@@ -1,4 +1,2 @@
-pub mod Powers
 pub mod Bytes
-pub mod Parts
 pub mod Rows

@@ -30,14 +30,23 @@ use Rattle.model.specs.declared.Record.{Record}
 use Rattle.model.specs.Laws.{Alignment, Aimed, lowest, highest}
 use Rattle.column.specs.Columns.{column, columns, read-column}
 use Rattle.column.proofs.Columns.{column-reads, length-column, length-columns, column-plain, columns-plain, signed-of-natural, signed-of-byte, signed-of-displacement}
-use Rattle.row.specs.declared.Cause.{Cause}
-use Rattle.row.specs.declared.Cause.the-variants.{Letter, Range}
+use Rattle.row_part.specs.declared.Cause.{Cause}
+use Rattle.row_part.specs.declared.Cause.the-variants.{Letter, Range}
 use Rattle.row.specs.Entry.{Entry, header, section, bytes, relocation, root, end, letter, width, numbers, render, Ranged, Ranged-record, record-numbers, setting-number, target-kind, target-number}
-use Rattle.row.specs.Reading.{and-then, column-at, bounded, within, natural-at, aligned, power-below, end-at, more-bytes, row-bytes, counted, setting-of, target-of, record-at, target-at, displacement-at, relocation-at, read-header, read-section, read-bytes, read-relocation, read-root, read-end, read-by, read-row}
+use Rattle.row_part.specs.Parts.{and-then, column-at, bounded, within, natural-at, aligned, power-below, displacement-at, end-at}
+use Rattle.row.specs.Reading.{more-bytes, row-bytes, counted, setting-of, target-of, record-at, target-at, relocation-at, read-header, read-section, read-bytes, read-relocation, read-root, read-end, read-by, read-row}
 use Rattle.row.specs.declared.Row.{Row}
 use Rattle.row.specs.Told.{value, values, byte-values, told, answer, row-length, Cut, Occupies}
-use Rattle.row.proofs.Powers.{alignment-tested, tested-alignment}
-use Rattle.row.proofs.Parts.{Fits, and-then-from, and-then-only, cond-only, Held, column-held, natural-held, end-held, column-read, natural-read, end-read, first-at, next-column, chained, columns-chained, at-column}
+use Rattle.row_part.proofs.Powers.{alignment-tested, tested-alignment}
+use Rattle.row_part.proofs.Parts.{Fits, and-then-from, and-then-only, cond-only, Held, column-held, natural-held, end-held, column-read, natural-read, end-read, first-at, next-column, chained, columns-chained, at-column}
+
+-- no column is wider than 18
+
+four : 4 ≤ 18
+four = omega arith
+
+narrow : 12 ≤ 18
+narrow = omega arith
 
 -- the numbers of a row fit its columns
 
@@ -120,17 +129,17 @@ rendered e t =
 -- what is written is read
 
 column-in : (w k : ℕ) (zs : List ℤ) (c : ℕ) (rest : List ℕ)
-    → 0 < w
+    → (0 < w) × (w ≤ 18)
     → k < length zs
     → All (Fits w) zs
     → column-at w (c ∷ chained w zs rest) (1 + w * k) ≡ Ok (getD zs k (pos 0))
 column-in w k zs c rest some low fit =
-    column-read w (c ∷ chained w zs rest) (1 + w * k) (getD zs k (pos 0)) (chained w (drop (k + 1) zs) rest) some
+    column-read w (c ∷ chained w zs rest) (1 + w * k) (getD zs k (pos 0)) (chained w (drop (k + 1) zs) rest) (some .0) (some .1)
     (at-column w k zs c rest (omega arith) fit ∙ ap (λ x. chained w x rest) (drop-more zs k (pos 0) low))
     (all-getD (Fits w) zs k (pos 0) low fit)
 
 natural-in : (w k : ℕ) (zs : List ℤ) (c limit n : ℕ) (rest : List ℕ)
-    → 0 < w
+    → (0 < w) × (w ≤ 18)
     → k < length zs
     → All (Fits w) zs
     → getD zs k (pos 0) ≡ pos n
@@ -247,7 +256,7 @@ relocation-reads r h t =
     )
     (ap (λ (x : Target). Ok x) (target-back (r .target)))
     ) in
-    let displacement : displacement-at row (r .target) ≡ Ok (r .displacement) =
+    let displacement : displacement-at row 49 (r .target) ≡ Ok (r .displacement) =
     and-then-from (within lowest (highest (r .target))) _ (r .displacement) _
     (column-in 12 4 zs 82 rest (omega arith) (omega arith) fit)
     (
@@ -314,7 +323,7 @@ more-read (suc left) (b ∷ bs) t at rest few small e =
     next-column 4 t at (pos b) (chained 4 (map pos bs) (10 ∷ rest)) e (fit .0) in
     cond-false (eqb (getD t at 0) 10) _ _ (ne-eqb (getD t at 0) 10 other)
     ∙ and-then-from _ _ b _
-    (natural-read 4 t at 255 b (chained 4 (map pos bs) (10 ∷ rest)) (omega arith) e fit (omega (arith, small .0)))
+    (natural-read 4 t at 255 b (chained 4 (map pos bs) (10 ∷ rest)) (omega arith) four e fit (omega (arith, small .0)))
     (and-then-from _ _ bs _ (more-read left bs t (at + 4) rest (omega arith) (small .1) after) refl)
 
 bytes-reads : (bs : List ℕ) → Ranged (bytes bs) → (t : List ℕ) → reads (bytes bs) t
@@ -382,9 +391,6 @@ link : (w : ℕ) (t : List ℕ) (at : ℕ) (z : ℤ) (rest : List ℕ)
     → drop (at + w) t ≡ rest
     → drop at t ≡ column w z ++ rest
 link w t at z rest h e = h .there ∙ ap (λ x. column w z ++ x) e
-
-narrow : 12 ≤ 18
-narrow = omega arith
 
 header-only : (t : List ℕ) (e : Entry) → getD t 0 0 ≡ 72 → read-header t ≡ Ok e → Only t e
 header-only t e first h =
@@ -559,9 +565,6 @@ end-only t e first h =
 abbrev More : ℕ → List ℕ → ℕ → List ℕ → Type 0
 More left t at bs =
     (rest : List ℕ) × (drop at t ≡ chained 4 (map pos bs) (10 ∷ rest)) × (length bs ≤ left) × All (λ b. b < 2 ^ 8) bs
-
-four : 4 ≤ 18
-four = omega arith
 
 more-push : (left : ℕ) (t : List ℕ) (at b : ℕ) (bs : List ℕ)
     → natural-at 4 t at 255 ≡ Ok b

@@ -1,13 +1,9 @@
 -- What is read from a text that begins with a row: the row, or which part of it is bad.
-use Prim.Native.Nat.{ℕ, zero, suc, _+_, _*_, _^_}
-use mathlib.Core.Bool.{Bool, true, false, cond, _&&_}
+use Prim.Native.Nat.{ℕ, zero, suc, _+_}
+use mathlib.Core.Bool.{cond}
 use mathlib.Core.List.{List, [], _∷_}
-use lib.Dec.{eqb, leb}
-use lib.ListN.{length, getD, take, drop}
-use lib.IntN.{ℤ, pos, negsuc}
-use lib.Signed.{leZ}
-use Rattle.std.specs.declared.option.Option.{Option}
-use Rattle.std.specs.declared.option.Option.the-variants.{None, Some}
+use lib.Dec.{eqb}
+use lib.ListN.{length, getD}
 use Rattle.std.specs.declared.result.Result.{Result}
 use Rattle.std.specs.declared.result.Result.the-variants.{Ok, Err}
 use Rattle.model.specs.declared.Setting.{Setting}
@@ -16,50 +12,10 @@ use Rattle.model.specs.declared.Target.{Target}
 use Rattle.model.specs.declared.Target.the-variants.{Section, Outside}
 use Rattle.model.specs.declared.Relocation.{Relocation}
 use Rattle.model.specs.declared.Record.{Record}
-use Rattle.model.specs.Laws.{lowest, highest}
-use Rattle.column.specs.Columns.{read-column}
-use Rattle.row.specs.declared.Cause.{Cause}
-use Rattle.row.specs.declared.Cause.the-variants.{Letter, Column, Range, End}
+use Rattle.row_part.specs.declared.Cause.{Cause}
+use Rattle.row_part.specs.declared.Cause.the-variants.{Letter}
+use Rattle.row_part.specs.Parts.{and-then, natural-at, alignment-at, displacement-at, end-at}
 use Rattle.row.specs.Entry.{Entry, header, section, bytes, relocation, root, end}
-
--- one step after another, up to the first that refuses
-abbrev pub and-then : {A B E : Type 0} → Result A E → (A → Result B E) → Result B E
-and-then (Ok a) f = f a
-and-then (Err e) f = Err e
-
-abbrev pub formed : Option ℤ → Result ℤ Cause
-formed None = Err Column
-formed (Some z) = Ok z
-
--- the number in the w columns from `at` on, all of which have to be there
-abbrev pub column-at : ℕ → List ℕ → ℕ → Result ℤ Cause
-column-at w t at = cond (leb (at + w) (length t)) (formed (read-column (take w (drop at t)))) (Err Column)
-
--- a natural number not above the limit
-abbrev pub bounded : ℕ → ℤ → Result ℕ Cause
-bounded limit (pos n) = cond (leb n limit) (Ok n) (Err Range)
-bounded limit (negsuc n) = Err Range
-
-abbrev pub within : ℤ → ℤ → ℤ → Result ℤ Cause
-within low high z = cond (leZ low z && leZ z high) (Ok z) (Err Range)
-
-abbrev pub natural-at : ℕ → List ℕ → ℕ → ℕ → Result ℕ Cause
-natural-at w t at limit = and-then (column-at w t at) (bounded limit)
-
--- byte 10 is due
-abbrev pub end-at : List ℕ → ℕ → Result ℕ Cause
-end-at t at = cond (eqb (getD t at 0) 10) (Ok (at + 1)) (Err End)
-
--- a power of two, below 2 ^ k
-unfoldable pub power-below : ℕ → ℕ → Bool
-power-below zero a = false
-power-below (suc k) a = cond (eqb a (2 ^ k)) true (power-below k a)
-
-abbrev pub aligned : ℕ → Result ℕ Cause
-aligned a = cond (power-below 17 a) (Ok a) (Err Range)
-
-abbrev pub alignment-at : List ℕ → ℕ → Result ℕ Cause
-alignment-at t at = and-then (natural-at 12 t at 65536) aligned
 
 abbrev pub setting-of : ℕ → Setting
 setting-of zero = Foldable
@@ -107,15 +63,12 @@ read-bytes t = and-then (row-bytes t) λ bs. Ok (bytes bs)
 abbrev pub target-at : List ℕ → Result Target Cause
 target-at t = and-then (natural-at 12 t 25 1) λ k. and-then (natural-at 12 t 37 65535) λ n. Ok (target-of k n)
 
-abbrev pub displacement-at : List ℕ → Target → Result ℤ Cause
-displacement-at t target = and-then (column-at 12 t 49) (within lowest (highest target))
-
 abbrev pub relocation-at : List ℕ → Result Relocation Cause
 relocation-at t =
     and-then (natural-at 12 t 1 65534) λ o.
     and-then (natural-at 12 t 13 4294967295) λ k.
     and-then (target-at t) λ target.
-    and-then (displacement-at t target) λ d.
+    and-then (displacement-at t 49 target) λ d.
     Ok (record { offset = o; kind = k; target = target; displacement = d })
 
 abbrev pub read-relocation : List ℕ → Result Entry Cause

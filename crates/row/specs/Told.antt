@@ -5,17 +5,17 @@ use mathlib.Core.Path.{_≡_}
 use lib.ListN.{length, take, drop}
 use lib.IntN.{ℤ, pos, negsuc}
 use Rattle.std.specs.shelf.Lists.{All}
-use denote.Ref.{RefT, now}
+use denote.Ref.{now}
 use Rattle.std.specs.declared.option.Option.{Option}
 use Rattle.std.specs.declared.option.Option.the-variants.{None, Some}
 use Rattle.std.specs.declared.result.Result.{Result}
 use Rattle.std.specs.declared.result.Result.the-variants.{Ok, Err}
 use Rattle.column.specs.Columns.{columns, read-column}
-use Rattle.row.specs.declared.Cause.{Cause}
+use Rattle.row_part.specs.declared.Cause.{Cause}
 use Rattle.row.specs.declared.Row.{Row}
 use Rattle.row.specs.declared.Row.the-variants as row
 use Rattle.row.specs.Entry.{Entry, header, section, bytes, relocation, root, end, letter, width, numbers, render, Ranged}
-use Rattle.row.specs.Reading.{end-at, read-row}
+use Rattle.row.specs.Reading.{read-row}
 
 -- what a column holds, where that is a natural number
 abbrev pub value : Option ℤ → ℕ
@@ -66,11 +66,6 @@ row-length (end k) = 14
 abbrev pub Cut : List ℕ → Result Row Cause → Type 0
 Cut t (Ok r) = part-of r ≡ take (row-length (told r)) t
 Cut t (Err e) = Unit {0}
-
--- the front of a text that ends in a 10 at a place, or there is none
-abbrev pub Ended : List ℕ → ℕ → Result (RefT (List ℕ)) Cause → Type 0
-Ended t at (Ok part) = (end-at t at ≡ Ok (at + 1)) × (now part ≡ take (at + 1) t)
-Ended t at (Err e) = end-at t at ≡ Err e
 
 -- the part is the text of what the row tells
 abbrev pub Occupies : Result Row Cause → Type 0

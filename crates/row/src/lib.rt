@@ -1,30 +1,19 @@
 // Rows of a section table.
 ghost use mathlib.Core.Path.{_≡_};
-ghost use Prim.Native.Nat.{_≤_, _<_};
-ghost use lib.ListN.{length, getD, take};
-ghost use Rattle.row.specs.Reading.{column-at, natural-at, power-below, alignment-at, end-at, setting-of, target-of};
-ghost use Rattle.row.specs.Reading.{counted, row-bytes, record-at, target-at, displacement-at, relocation-at};
+ghost use Rattle.row.specs.Reading.{setting-of, target-of, counted, row-bytes, record-at, target-at, relocation-at};
 ghost use Rattle.row.specs.Reading.{read-header, read-section, read-bytes, read-relocation, read-root, read-end, read-row};
-ghost use Rattle.row.specs.Told.{part-of, answer, Cut, Ended, Occupies, Read-back, Only-written, Ends-once, As-long};
-ghost use Rattle.model.specs.Laws.{highest};
-use column::read_column;
+ghost use Rattle.row.specs.Told.{part-of, answer, Cut, Occupies, Read-back, Only-written, Ends-once, As-long};
 use model::Record;
 use model::Relocation;
 use model::Setting;
 use model::Target;
-
-// Which part of a row is bad, from the left.
-#[derive(Clone, Copy, PartialEq, Eq, Debug)]
-pub enum Cause {
-    // the letter
-    Letter,
-    // the form of a column, which may also be cut short
-    Column,
-    // the range of a number
-    Range,
-    // the row's end
-    End,
-}
+pub use row_part::Cause;
+use row_part::alignment_at;
+use row_part::byte_at;
+use row_part::displacement_at;
+use row_part::end_at;
+use row_part::short_at;
+use row_part::word_at;
 
 // A row of a table, with the part of the text that it occupies, byte 10 included.
 #[derive(Clone, Copy)]
@@ -90,78 +79,6 @@ pub fn read_row(text: &[u8]) -> Result<Row<'_>, Cause>
     row_at(text)
 }
 
-// The byte at a place, 0 past the end.
-fn byte_at(text: &[u8], at: usize) -> u8
-    ensures { λ r. ⌜ r ≡ getD (now (text .entry)) at 0 ⌝ }
-{
-    if at < text.len() { text[at] } else { 0 }
-}
-
-// The number in the columns from `at` on.
-fn column_at(width: usize, text: &[u8], at: usize) -> Result<i64, Cause>
-    requires { ⌜ width ≤ 18 ⌝ ∗ ⌜ at ≤ 100 ⌝ }
-    ensures { λ r. ⌜ r ≡ column-at width (now (text .entry)) at ⌝ }
-{
-    let past = at + width;
-    if text.len() < past {
-        return Err(Cause::Column);
-    }
-    match read_column(&text[at..past]) {
-        Some(number) => Ok(number),
-        None => Err(Cause::Column),
-    }
-}
-
-// A natural number of 16 bits, not above the limit.
-fn short_at(width: usize, text: &[u8], at: usize, limit: u16) -> Result<u16, Cause>
-    requires { ⌜ width ≤ 18 ⌝ ∗ ⌜ at ≤ 100 ⌝ }
-    ensures { λ r. ⌜ r ≡ natural-at width (now (text .entry)) at limit ⌝ }
-{
-    let number = column_at(width, text, at)?;
-    if number < 0 || number > i64::from(limit) {
-        return Err(Cause::Range);
-    }
-    Ok(number as u16)
-}
-
-// A natural number of 32 bits, not above the limit.
-fn word_at(text: &[u8], at: usize, limit: u32) -> Result<u32, Cause>
-    requires { ⌜ at ≤ 100 ⌝ }
-    ensures { λ r. ⌜ r ≡ natural-at 12 (now (text .entry)) at limit ⌝ }
-{
-    let number = column_at(12, text, at)?;
-    if number < 0 || number > i64::from(limit) {
-        return Err(Cause::Range);
-    }
-    Ok(number as u32)
-}
-
-// Whether a number is a power of two from 1 to 65,536.
-fn is_alignment(value: u32) -> bool
-    ensures { λ r. ⌜ r ≡ power-below 17 value ⌝ }
-{
-    let mut power: u32 = 1;
-    for i in 0..17u32 {
-        if value == power {
-            return true;
-        }
-        power *= 2;
-    }
-    false
-}
-
-fn alignment_at(text: &[u8], at: usize) -> Result<u32, Cause>
-    requires { ⌜ at ≤ 100 ⌝ }
-    ensures { λ r. ⌜ r ≡ alignment-at (now (text .entry)) at ⌝ }
-{
-    let value = word_at(text, at, 65536)?;
-    if is_alignment(value) {
-        Ok(value)
-    } else {
-        Err(Cause::Range)
-    }
-}
-
 fn setting_of(number: u16) -> Setting
     ensures { λ r. ⌜ r ≡ setting-of number ⌝ }
 {
@@ -208,51 +125,19 @@ fn target_at(text: &[u8]) -> Result<Target, Cause>
     Ok(target_of(kind, number))
 }
 
-// The highest displacement: beyond an outside name's, a section's has room for a place in the section.
-fn highest(target: &Target) -> i64
-    ensures { λ r. ⌜ r ≡ highest (now (target .entry)) ⌝ }
-{
-    match target {
-        Target::Section(_) => 2147549182,
-        Target::Outside(_) => 2147483647,
-    }
-}
-
-fn displacement_at(text: &[u8], target: &Target) -> Result<i64, Cause>
-    ensures { λ r. ⌜ r ≡ displacement-at (now (text .entry)) (now (target .entry)) ⌝ }
-{
-    let number = column_at(12, text, 49)?;
-    if number < -2147483648 || number > highest(target) {
-        return Err(Cause::Range);
-    }
-    Ok(number)
-}
-
 fn relocation_at(text: &[u8]) -> Result<Relocation, Cause>
     ensures { λ r. ⌜ r ≡ relocation-at (now (text .entry)) ⌝ }
 {
     let offset = short_at(12, text, 1, 65534)?;
     let kind = word_at(text, 13, 4294967295)?;
     let target = target_at(text)?;
-    let displacement = displacement_at(text, &target)?;
+    let displacement = displacement_at(text, 49, &target)?;
     Ok(Relocation {
         offset,
         kind,
         target,
         displacement,
     })
-}
-
-// The part of the text up to the byte 10 that is due at a place.
-fn end_at(text: &[u8], at: usize) -> Result<&[u8], Cause>
-    requires { ⌜ at ≤ 100 ⌝ }
-    ensures { λ r. ⌜ Ended (now (text .entry)) at r ⌝ }
-{
-    if at < text.len() && text[at] == 10 {
-        Ok(&text[..at + 1])
-    } else {
-        Err(Cause::End)
-    }
 }
 
 fn read_header(text: &[u8]) -> Result<Row<'_>, Cause>

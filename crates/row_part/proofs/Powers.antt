@@ -8,7 +8,7 @@ use native.Mathlib.Numerals.{add-one}
 use lib.Dec.{eqb}
 use Rattle.std.proofs.shelf.Tests.{cases-lt, cond-true, cond-false, eq-eqb, ne-eqb, eqb-true}
 use Rattle.model.specs.Laws.{Alignment}
-use Rattle.row.specs.Reading.{power-below}
+use Rattle.row_part.specs.Parts.{power-below}
 
 pub power-none : (a : ℕ) → power-below 0 a ≡ false
 unfolding power-below

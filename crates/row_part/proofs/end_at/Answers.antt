@@ -1,8 +1,8 @@
 use mathlib.Core.Path.{_≡_, sym, ap, _∙_}
 use Rattle.std.proofs.shelf.Lists.{getD-past}
 use Rattle.std.proofs.shelf.Tests.{ne-eqb, cond-false}
-use Rattle.row.proofs.end_at.Needs as need
-use Rattle.row.proofs.end_at.Needs.{else-at-text·by·then-at-text·else-text-at-eq10, else-at-text·by·else-at-text}
+use Rattle.row_part.proofs.end_at.Needs as need
+use Rattle.row_part.proofs.end_at.Needs.{else-at-text·by·then-at-text·else-text-at-eq10, else-at-text·by·else-at-text}
 
 pub returns-else-at-text : need.returns-else-at-text
 returns-else-at-text c =

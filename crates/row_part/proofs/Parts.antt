@@ -19,11 +19,11 @@ use Rattle.std.specs.declared.result.Result.{Result}
 use Rattle.std.specs.declared.result.Result.the-variants.{Ok, Err}
 use Rattle.std.proofs.shelf.Lists.{length-append, length-drop, length-take-le, take-append-drop, take-at, drop-at, drop-drop, drop-more, getD-past, getD-drop}
 use Rattle.std.proofs.shelf.Tests.{cases-lt, cond-true, eqb-true, eq-eqb, leb-true, le-leb, and-parts}
-use Rattle.column.specs.Columns.{column, columns, read-column}
+use Rattle.column.specs.Columns.{column, columns, read-column, column-of}
 use Rattle.column.proofs.Columns.{column-reads, column-only, length-column, length-columns, columns-at}
-use Rattle.row.specs.declared.Cause.{Cause}
-use Rattle.row.specs.declared.Cause.the-variants.{Column, Range, End}
-use Rattle.row.specs.Reading.{and-then, formed, column-at, bounded, within, natural-at, end-at}
+use Rattle.row_part.specs.declared.Cause.{Cause}
+use Rattle.row_part.specs.declared.Cause.the-variants.{Column, Range, End}
+use Rattle.row_part.specs.Parts.{and-then, formed, column-at, bounded, within, natural-at, end-at}
 
 -- the number takes at most w columns, and it fits 64 bits
 abbrev pub Fits : ℕ → ℤ → Type 0
@@ -66,14 +66,21 @@ pub record Held (w : ℕ) (t : List ℕ) (at : ℕ) (z : ℤ) : Type 0 where
   pub there : drop at t ≡ column w z ++ drop (at + w) t
   pub fits : Fits w z
 
+column-of-only : (xs : List ℕ) (z : ℤ) → column-of xs ≡ Some z → read-column xs ≡ Some z
+column-of-only xs z h = go (leb (length xs) 18) h
+  where
+    go : (b : Bool) → cond b (read-column xs) None ≡ Some z → read-column xs ≡ Some z
+    go true e = e
+    go false e = let y : _≡_ {A = ℕ} 0 1 = cc in absurd (omega arith)
+
 pub column-held : (w : ℕ) (t : List ℕ) (at : ℕ) (z : ℤ) → w ≤ 18 → column-at w t at ≡ Ok z → Held w t at z
 column-held w t at z small h =
-    let p = cond-only (leb (at + w) (length t)) (formed (read-column (take w (drop at t)))) Column z h in
+    let p = cond-only (leb (at + w) (length t)) (formed (column-of (take w (drop at t)))) Column z h in
     let room : at + w ≤ length t = leb-true (at + w) (length t) (p .0) in
     let long : length (take w (drop at t)) ≡ w =
     length-take-le w (drop at t) (omega (arith, length-drop at t)) in
     let q =
-    column-only (take w (drop at t)) z (omega (arith, long)) (formed-only (read-column (take w (drop at t))) z (p .1)) in
+    column-only (take w (drop at t)) z (omega (arith, long)) (column-of-only (take w (drop at t)) z (formed-only (column-of (take w (drop at t))) z (p .1))) in
     let same : take w (drop at t) ≡ column w z = q .0 ∙ ap (λ n. column n z) long in
     record {
       there =
@@ -106,26 +113,32 @@ end-held t at k h =
 
 pub column-read : (w : ℕ) (t : List ℕ) (at : ℕ) (z : ℤ) (rest : List ℕ)
     → 0 < w
+    → w ≤ 18
     → drop at t ≡ column w z ++ rest
     → Fits w z
     → column-at w t at ≡ Ok z
-column-read w t at z rest some e fits =
+column-read w t at z rest some few e fits =
     let long = length-column w z (fits .0) in
     let all = ap length e ∙ length-append (column w z) rest in
     let room : at + w ≤ length t = omega (arith, length-drop at t, all, long) in
     let same : take w (drop at t) ≡ column w z = ap (take w) e ∙ take-at (column w z) rest w long in
     cond-true (leb (at + w) (length t)) _ _ (le-leb (at + w) (length t) room)
-    ∙ ap (λ x. formed (read-column x)) same
-    ∙ ap formed (column-reads w z (fits .1))
+    ∙ ap (λ x. formed (column-of x)) same
+    ∙ ap formed
+    (
+    cond-true (leb (length (column w z)) 18) _ _ (le-leb (length (column w z)) 18 (omega (arith, long)))
+    ∙ column-reads w z (fits .1)
+    )
 
 pub natural-read : (w : ℕ) (t : List ℕ) (at limit n : ℕ) (rest : List ℕ)
     → 0 < w
+    → w ≤ 18
     → drop at t ≡ column w (pos n) ++ rest
     → Fits w (pos n)
     → n ≤ limit
     → natural-at w t at limit ≡ Ok n
-natural-read w t at limit n rest some e fits low =
-    and-then-from (bounded limit) (column-at w t at) (pos n) (Ok n) (column-read w t at (pos n) rest some e fits)
+natural-read w t at limit n rest some few e fits low =
+    and-then-from (bounded limit) (column-at w t at) (pos n) (Ok n) (column-read w t at (pos n) rest some few e fits)
     (cond-true (leb n limit) _ _ (le-leb n limit low))
 
 pub first-at : (t : List ℕ) (at : ℕ) (rest : List ℕ) → drop at t ≡ rest → getD t at 0 ≡ getD rest 0 0

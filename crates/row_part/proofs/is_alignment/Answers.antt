@@ -3,8 +3,8 @@ use mathlib.Core.Path.{_≡_, refl, sym, ap, _∙_}
 use native.Mathlib.Omega.{arith}
 use native.Mathlib.Numerals.{add-one}
 use native.Mathlib.Nat.{pow-suc}
-use Rattle.row.proofs.Powers.{power-none, power-more, power-found}
-use Rattle.row.proofs.is_alignment.Needs as need
+use Rattle.row_part.proofs.Powers.{power-none, power-more, power-found}
+use Rattle.row_part.proofs.is_alignment.Needs as need
 
 pub loop-i-holds : need.loop-i-holds
 loop-i-holds c = (refl, power-none (c .args .value))
