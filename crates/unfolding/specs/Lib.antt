@@ -1,0 +1,6 @@
+pub mod Depth
+pub mod Telling
+pub mod Groups
+pub mod Reach
+pub mod Sections
+pub mod Examples
