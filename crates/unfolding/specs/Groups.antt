@@ -58,13 +58,17 @@ stable-by T g k = all-below (λ s. all-below (stable-pair T g k s) (count-of g))
 unfoldable pub rounds-by : {M F : Type 0} → Telling M F → Graph → ℕ
 rounds-by T g = least-below (stable-by T g) (count-of g)
 
--- t is present and foldable and agrees with s at every depth, which agreement at the depth of the count decides
-abbrev pub grouped : {M F : Type 0} → Telling M F → Graph → ℕ → ℕ → Bool
-grouped T g s t = foldable g t && agrees-by T (count-of g) g t g s
+-- section t is present and foldable, and agrees with section s at depth k
+abbrev pub grouped : {M F : Type 0} → Telling M F → Graph → ℕ → ℕ → ℕ → Bool
+grouped T g k s t = foldable g t && agrees-by T k g t g s
 
--- the representative: of a foldable section the lowest in its group, of another section itself
+-- the class of a section at depth k: of a foldable one the lowest that agrees with it, of another the section itself
+unfoldable pub class-by : {M F : Type 0} → Telling M F → Graph → ℕ → ℕ → ℕ
+class-by T g k s = cond (foldable g s) (least-below (grouped T g k s) s) s
+
+-- the representative: the lowest that agrees at every depth, which agreement at the depth of the count decides
 unfoldable pub rep-by : {M F : Type 0} → Telling M F → Graph → ℕ → ℕ
-rep-by T g s = cond (foldable g s) (least-below (grouped T g s) s) s
+rep-by T g s = class-by T g (count-of g) s
 
 -- relocations with their targets put elsewhere
 

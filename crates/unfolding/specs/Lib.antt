@@ -3,4 +3,5 @@ pub mod Telling
 pub mod Groups
 pub mod Reach
 pub mod Sections
+pub mod Theorems
 pub mod Examples

@@ -45,13 +45,12 @@ abbrev pub arms-in : Option Body → List (Arm ℕ)
 arms-in None = []
 arms-in (Some b) = map arm (b .relocations)
 
+-- what is told of section s, from its number and what it is
+abbrev pub seen : {M F : Type 0} → Telling M F → ℕ → Option Body → Shape M F ℕ
+seen T s b = record { mark = T .mark s (mapped setting-in b); face = T .face b; arms = arms-in b }
+
 abbrev pub look : {M F : Type 0} → Telling M F → Graph → Look M F
-look T g s =
-    record {
-      mark = T .mark s (setting-of g s);
-      face = T .face (section-of g s);
-      arms = arms-in (section-of g s);
-    }
+look T g s = seen T s (section-of g s)
 
 -- section s of g and section t of h agree at depth k: their unfoldings are equal
 abbrev pub Agree-by : {M F : Type 0} → Telling M F → ℕ → Graph → ℕ → Graph → ℕ → Type 0
