@@ -3,6 +3,7 @@ use Prim.Native.Nat.{ℕ, zero, suc}
 use native.Mathlib.Omega.{arith}
 use mathlib.Core.Path.{_≡_, refl, sym, subst, _∙_}
 use mathlib.Core.List.{List, [], _∷_, map}
+use lib.ListN.{length}
 use Rattle.std.specs.declared.option.Option.{Option}
 use Rattle.std.specs.declared.option.Option.the-variants.{None, Some}
 use Rattle.std.specs.Options.{mapped}
@@ -30,3 +31,11 @@ all-at P (y ∷ xs) (suc i) x h e = all-at P xs i x (h .1) e
 pub all-from : {X : Type 0} (P : X → Type 0) (xs : List X) → ((i : ℕ) (x : X) → nth xs i ≡ Some x → P x) → All P xs
 all-from P [] h = tt
 all-from P (x ∷ xs) h = (h zero x refl, all-from P xs (λ i. h (suc i)))
+
+-- a list as long has an element at the same place
+pub nth-there :
+    {X Y : Type 0} (xs : List X) (ys : List Y) (i : ℕ) (x : X) → length xs ≡ length ys → nth xs i ≡ Some x → (y : Y) × (nth ys i ≡ Some y)
+nth-there [] ys i x l e = let z : _≡_ {A = ℕ} 0 1 = cc in absurd (omega arith)
+nth-there (a ∷ xs) [] i x l e = absurd (omega arith)
+nth-there (a ∷ xs) (b ∷ ys) zero x l e = (b, refl)
+nth-there (a ∷ xs) (b ∷ ys) (suc i) x l e = nth-there xs ys i x (omega arith) e
