@@ -46,6 +46,9 @@ pub record Represents (g : Graph) : Type 0 where
   pub member : (s : ℕ) → Fold-able g s → Fold-able g (rep g s)
   pub lowest : (s t : ℕ) → Fold-able g s → Fold-able g t → Alike g t g s → rep g s ≤ t
   pub itself : (s : ℕ) → foldable g s ≡ false → rep g s ≡ s
+  -- two foldable sections share it exactly when they are alike
+  pub joins : (s t : ℕ) → Fold-able g s → Fold-able g t → Alike g s g t → rep g s ≡ rep g t
+  pub parts : (s t : ℕ) → rep g s ≡ rep g t → Alike g s g t
 
 abbrev pub Rounds-are-least : Type 0
 Rounds-are-least = (g : Graph) → Rounds-least g
