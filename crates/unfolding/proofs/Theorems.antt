@@ -12,11 +12,14 @@ use Rattle.model.specs.Graph.{Body, Graph, section-of, Present}
 use Rattle.unfolding.specs.Telling.{setting-in, setting-of, look}
 use Rattle.unfolding.specs.Groups.{may-fold, foldable, Fold-able}
 use Rattle.unfolding.specs.Sections.{Mark, mark-of, Agree, rules}
-use Rattle.unfolding.specs.Theorems.{Marks-tell, Narrows, Groups-last, Groups-settle, Depth-decides, Rounds-least, Represents, Rounds-are-least, Lowest-represents}
+use Rattle.unfolding.specs.Theorems.{Presence-decided, Marks-tell, Narrows, Groups-last, Groups-settle, Depth-decides, Rounds-least, Represents, Rounds-are-least, Lowest-represents}
 use Rattle.unfolding.proofs.Depths.{narrows, steady-alike}
 use Rattle.unfolding.proofs.Marks.{Kinds, both-absent, both-foldable, one-pinned, kinds-present, agree-kinds, stays-stable, decided}
 use Rattle.unfolding.proofs.Classes.{some-stable, rounds-least, rounds-bounded, rounds-stable, rep-alike, rep-foldable, rep-lowest, rep-itself, rep-same, rep-shares}
 use Rattle.unfolding.proofs.Rules.{lawful-rules}
+
+pub presence-decided : Presence-decided
+presence-decided g s = (λ e. e, λ e. e)
 
 pub depths-narrow : Narrows
 depths-narrow k g s h t e = narrows (look rules g) (look rules h) k s t e

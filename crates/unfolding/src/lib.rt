@@ -1,8 +1,15 @@
 // What a section unfolds to, which sections are alike, and the folded and the swept graph: definitions (specs/) and theorems on the
 // depths. A function here has a theorem for its contract, and nothing to do.
-ghost use Rattle.unfolding.specs.Theorems.{Marks-tell, Narrows, Groups-last, Groups-settle, Depth-decides, Rounds-are-least, Lowest-represents};
+ghost use Rattle.unfolding.specs.Theorems.{Presence-decided, Marks-tell, Narrows, Groups-last, Groups-settle, Depth-decides, Rounds-are-least, Lowest-represents};
 ghost use Rattle.unfolding.specs.Matching.{Alike-matches, Matching-alike};
 ghost use Rattle.unfolding.specs.Examples.{Examples-hold};
+
+// The sections that are counted are the present ones.
+pub fn presence_decided() -> u8
+    ensures { λ _. ⌜ Presence-decided ⌝ }
+{
+    0
+}
 
 // Depth 0 tells a pinned section from every other, and no two foldable ones apart.
 pub fn marks_tell() -> u8
