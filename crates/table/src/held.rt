@@ -4,7 +4,7 @@ ghost use mathlib.Core.Bool.{true};
 ghost use Rattle.std.specs.Of.Vec.{vec-items};
 ghost use Rattle.table.specs.Held.{held};
 
-mod reader;
+pub(crate) mod reader;
 
 // A section table as it was read, and where the row of each present section begins (0 where it is absent).
 #[derive(Drop)]

@@ -4,3 +4,4 @@ mod places;
 mod scan;
 
 pub use held::Table;
+pub use held::reader::TableGraph;
