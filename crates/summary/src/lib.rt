@@ -71,7 +71,14 @@ fn tally<G: SectionGraph>(graph: &G) -> Summary
         bytes += u32::from(its_bytes(&told));
         relocations += u32::from(its_relocations(&told));
     }
-    Summary { sections, present, pinned, bytes, relocations, roots: graph.root_count() }
+    Summary {
+        sections,
+        present,
+        pinned,
+        bytes,
+        relocations,
+        roots: graph.root_count(),
+    }
 }
 
 // Counts what a section graph holds.

@@ -9,6 +9,7 @@ use lib.ListN.{length, getD}
 use Rattle.std.specs.declared.option.Option.{Option}
 use Rattle.std.specs.declared.option.Option.the-variants.{None, Some}
 use Rattle.std.specs.Options.{mapped}
+use Rattle.std.proofs.shelf.Tests.{cond-false, le-ltb}
 use Rattle.fault.specs.declared.Fault.{Fault}
 use Rattle.model.specs.declared.Record.{Record}
 use Rattle.model.specs.Graph.{Body, empty, count-of, record-of, byte-of, relocation-of, root-count-of, root-of}
@@ -21,7 +22,7 @@ use Rattle.table.specs.Notes.{starts-of}
 use Rattle.table.specs.Places.{sections-told, roots-told, record-told, rows-from, byte-in, relocation-in, root-in}
 use Rattle.table.specs.Held.{held}
 use Rattle.table.proofs.Outcomes.{held-parts, held-cases}
-use Rattle.table.proofs.Questions.{sections-right, roots-right, record-right, byte-right, relocation-right, root-right}
+use Rattle.table.proofs.Questions.{sections-right, roots-right, record-right, none-byte, byte-right, relocation-right, root-right}
 
 formed-from : (t : List ℕ) → fault-of t ≡ None → bad-row t ≡ None
 formed-from t h = go (bad-row t) h
@@ -54,11 +55,11 @@ record-held s =
     (λ xs. ap (λ (u : List ℕ). record-told (read-row u)) (none-from (getD xs s 0)))
     (λ t f. record-right t f s)
 
-pub byte-held : (s i : ℕ) (t xs : List ℕ) → held t xs ≡ true
-    → byte-in (rows-from t (getD xs s 0)) (record-told (read-row (rows-from t (getD xs s 0)))) i ≡ byte-of (graph-of t) s i
-byte-held s i t xs h =
-    ap (λ (r : Option Record). byte-in (rows-from t (getD xs s 0)) r i) (record-held s t xs h)
-    ∙ by-text (λ t xs. byte-in (rows-from t (getD xs s 0)) (record-of (graph-of t) s) i ≡ byte-of (graph-of t) s i) (λ xs. refl) (λ t f. byte-right t f s i) t xs h
+pub byte-held : (s i : ℕ) (t xs : List ℕ) → held t xs ≡ true → byte-in (rows-from t (getD xs s 0)) i ≡ byte-of (graph-of t) s i
+byte-held s i =
+    by-text (λ t xs. byte-in (rows-from t (getD xs s 0)) i ≡ byte-of (graph-of t) s i)
+    (λ xs. ap (λ (u : List ℕ). byte-in u i) (none-from (getD xs s 0)) ∙ none-byte i)
+    (λ t f. byte-right t f s i)
 
 pub relocation-held : (s j : ℕ) (t xs : List ℕ) → held t xs ≡ true
     → relocation-in (rows-from t (getD xs s 0)) (record-told (read-row (rows-from t (getD xs s 0)))) j ≡ relocation-of (graph-of t) s j
@@ -72,7 +73,7 @@ root-held j t xs h =
     ∙ by-text (λ t xs. root-in t (root-count-of (graph-of t)) j ≡ root-of (graph-of t) j) (λ xs. no-root j) (λ t f. root-right t f j) t xs h
   where
     no-root : (i : ℕ) → root-in [] 0 i ≡ None
-    no-root i = Rattle.std.proofs.shelf.Tests.cond-false _ _ _ (Rattle.std.proofs.shelf.Tests.le-ltb i 0 (omega arith))
+    no-root i = cond-false _ _ _ (le-ltb i 0 (omega arith))
 
 empty-valid : Valid empty
 empty-valid =

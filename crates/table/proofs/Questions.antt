@@ -7,7 +7,7 @@ use mathlib.Core.Logic.{_⊎_, inl, inr}
 use native.Mathlib.Omega.{arith}
 use native.Mathlib.Nat.{zero-add, add-assoc}
 use lib.Dec.{eqb, ltb}
-use lib.IntN.{pos}
+use lib.IntN.{ℤ, pos}
 use lib.ListN.{length, take, drop, getD, replicate}
 use Rattle.std.specs.declared.option.Option.{Option}
 use Rattle.std.specs.declared.option.Option.the-variants.{None, Some}
@@ -17,11 +17,13 @@ use Rattle.std.specs.Options.{isSome}
 use Rattle.std.specs.Joined.{joined}
 use Rattle.std.specs.Finite.{nth}
 use Rattle.std.specs.shelf.Lists.{All}
-use Rattle.std.proofs.shelf.Lists.{getD-replicate, getD-past, length-replicate}
+use Rattle.std.proofs.shelf.Lists.{append-assoc, getD-replicate, getD-past}
 use Rattle.std.proofs.shelf.Elements.{all-getD, all-weaker}
 use Rattle.std.proofs.shelf.Maps.{nth-getD, nth-past}
-use Rattle.std.proofs.shelf.Tests.{cases-lt, lt-ltb, le-ltb, eq-eqb, ne-eqb}
-use Rattle.column.specs.Columns.{read-column}
+use Rattle.std.proofs.shelf.Tests.{cases-lt, lt-ltb, le-ltb, eq-eqb, ne-eqb, cond-false}
+use Rattle.std.specs.Written.{signed}
+use Rattle.column.specs.Columns.{columns, read-column}
+use Rattle.column.proofs.Columns.{columns-at, column-reads}
 use Rattle.model.specs.declared.Record.{Record}
 use Rattle.model.specs.declared.Relocation.{Relocation}
 use Rattle.model.specs.declared.Target.the-variants.{Section}
@@ -29,15 +31,17 @@ use Rattle.model.specs.Graph.{Body, Graph, record-in, section-of, told-record, 
 use Rattle.model.specs.Laws.{Lawful-body, Lawful-relocation}
 use Rattle.lines.specs.Lines.{lines}
 use Rattle.row.specs.declared.Cause.{Cause}
-use Rattle.row.specs.Entry.{Entry, header, section, bytes, relocation, root, end, render, Ranged, Ranged-record}
+use Rattle.row.specs.Entry.{Entry, header, section, bytes, relocation, root, end, numbers, render, Ranged, Ranged-record}
 use Rattle.row.specs.Reading.{read-row}
+use Rattle.row.proofs.Rows.{fits}
+use Rattle.row_part.proofs.Parts.{Fits}
 use Rattle.layout.specs.Layout.{with-bytes, with-relocations, with-section, with-sections, with-roots, present-count, entries, text-of, Formed, Free}
 use Rattle.layout.specs.Reading.{bad-row, graph-of, named, absent-in, dangles, dangling-from}
 use Rattle.layout.proofs.Texts.{row-itself, lines-text, formed-text}
 use Rattle.layout.proofs.Ranges.{ranged-entries, count-below}
 use Rattle.layout.proofs.Aims.{present-below}
 use Rattle.table.specs.Notes.{note, noted, no-notes, starts-of, unnoted, loose-on, loose-from}
-use Rattle.table.specs.Places.{sections-told, roots-told, record-told, relocation-told, root-told, rows-from, bytes-length, byte-place, relocation-place, byte-told, byte-in, relocation-in, root-in}
+use Rattle.table.specs.Places.{sections-told, roots-told, record-told, relocation-told, root-told, rows-from, bytes-length, byte-place, relocation-place, byte-told, size-told, byte-in, relocation-in, root-in}
 use Rattle.table.proofs.Spots.{Stands, stands-next, notes, Spot, Noted, sections-noted, past-sections}
 use Rattle.table.proofs.Distances.{stands-read, stands-after, past-bytes, byte-spot, relocation-spot, root-spot, roots-place}
 
@@ -53,6 +57,20 @@ zeros v = go (cases-lt v 1024)
     go : (v < 1024) ⊎ (1024 ≤ v) → getD no-notes v 0 ≡ 0
     go (inl l) = getD-replicate 1024 v 0 0 l
     go (inr l) = getD-past no-notes v 0 l
+
+-- the fourth number of a section's row is its size
+size-column : (s : ℕ) (r : Record) (t : List ℕ) → Ranged (section s r) → read-column (take 12 (drop 37 (render (section s r) ++ t))) ≡ Some (pos (r .size))
+size-column s r t h =
+    let zs : List ℤ = numbers (section s r) in
+    let small : r .size < 2 ^ 16 = h .1 .size in
+    ap (λ (xs : List ℕ). read-column (take 12 (drop 36 xs))) (append-assoc (columns 12 zs) (10 ∷ []) t)
+    ∙ ap read-column (columns-at 12 3 zs (10 ∷ t) (omega arith) (all-weaker (Fits 12) (λ z. length (signed z) ≤ 12) (λ z f. f .0) zs (fits (section s r) h)))
+    ∙ column-reads 12 (pos (r .size)) (omega arith)
+
+-- where there is no row there is no size, and so no byte
+pub none-byte : (i : ℕ) → byte-in [] i ≡ None
+unfolding read-column
+none-byte i = cond-false (ltb i 0) _ _ (le-ltb i 0 (omega arith))
 
 -- a text whose rows form
 module _ (t : List ℕ) (formed : bad-row t ≡ None) where
@@ -135,11 +153,21 @@ module _ (t : List ℕ) (formed : bad-row t ≡ None) where
   byte-value : (n : ℕ) → n < 256 → byte-told (Some (pos n)) ≡ Some n
   byte-value n h = ap (λ (c : Bool). cond c (Some n) None) (lt-ltb n 256 h)
 
-  byte-row : (s : ℕ) (b : Body) (u : List ℕ) (i : ℕ) → section-of (graph-of t) s ≡ Some b → Rows s (Some b) u → byte-in u (Some (record-in b)) i ≡ nth (b .bytes) i
-  byte-row s b u i e h = go (cases-lt i (length (b .bytes)))
+  size-value : (n : ℕ) → n < 2 ^ 16 → size-told (Some (pos n)) ≡ n
+  size-value n h = ap (λ (c : Bool). cond c n 0) (lt-ltb n 65536 h)
+
+  byte-row : (s : ℕ) (b : Body) (u : List ℕ) (i : ℕ) → section-of (graph-of t) s ≡ Some b → Rows s (Some b) u → byte-in u i ≡ nth (b .bytes) i
+  byte-row s b u i e h =
+      ap (λ (n : ℕ). cond (ltb i n) (byte-told (read-column (take 4 (drop (byte-place i) u)))) None) size ∙ go (cases-lt i (length (b .bytes)))
     where
       values : All (λ x. x < 2 ^ 8) (b .bytes)
       values = laws .bodies s b e .bytes
+
+      size : size-told (read-column (take 12 (drop 37 u))) ≡ length (b .bytes)
+      size =
+          ap (λ (v : List ℕ). size-told (read-column (take 12 (drop 37 v)))) (h .1)
+          ∙ ap size-told (size-column s (record-in b) _ (section-ranged s b e))
+          ∙ size-value (length (b .bytes)) (laws .bodies s b e .size)
 
       go : (i < length (b .bytes)) ⊎ (length (b .bytes) ≤ i)
           → cond (ltb i (length (b .bytes))) (byte-told (read-column (take 4 (drop (byte-place i) u)))) None ≡ nth (b .bytes) i
@@ -152,11 +180,11 @@ module _ (t : List ℕ) (formed : bad-row t ≡ None) where
           ap (λ (c : Bool). cond c (byte-told (read-column (take 4 (drop (byte-place i) u)))) None) (le-ltb i (length (b .bytes)) l)
           ∙ sym (nth-past (b .bytes) i l)
 
-  pub byte-right : (s i : ℕ) → byte-in (rows-from t (getD (starts-of t) s 0)) (told-record (section-of (graph-of t) s)) i ≡ told-byte (section-of (graph-of t) s) i
+  pub byte-right : (s i : ℕ) → byte-in (rows-from t (getD (starts-of t) s 0)) i ≡ told-byte (section-of (graph-of t) s) i
   byte-right s i = go (section-of (graph-of t) s) refl (rows-from t (getD (starts-of t) s 0)) (rows-at s)
     where
-      go : (o : Option Body) → section-of (graph-of t) s ≡ o → (u : List ℕ) → Rows s o u → byte-in u (told-record o) i ≡ told-byte o i
-      go None e u h = refl
+      go : (o : Option Body) → section-of (graph-of t) s ≡ o → (u : List ℕ) → Rows s o u → byte-in u i ≡ told-byte o i
+      go None e u h = ap (λ (v : List ℕ). byte-in v i) h ∙ none-byte i
       go (Some b) e u h = byte-row s b u i e h
 
   relocation-row : (s : ℕ) (b : Body) (u : List ℕ) (j : ℕ) → section-of (graph-of t) s ≡ Some b → Rows s (Some b) u → relocation-in u (Some (record-in b)) j ≡ nth (b .relocations) j

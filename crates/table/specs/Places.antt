@@ -85,12 +85,18 @@ byte-told None = None
 byte-told (Some (pos n)) = cond (ltb n 256) (Some n) None
 byte-told (Some (negsuc n)) = None
 
--- byte i of a section, from its row on and by its record
-abbrev pub byte-in : List ℕ → Option Record → ℕ → Option ℕ
-byte-in u None i = None
-byte-in u (Some r) i = cond (ltb i (r .size)) (byte-told (read-column (take 4 (drop (byte-place i) u)))) None
+-- how many bytes a section's row tells: the number in its fourth columns
+abbrev pub size-told : Option ℤ → ℕ
+size-told None = 0
+size-told (Some (pos n)) = cond (ltb n 65536) n 0
+size-told (Some (negsuc n)) = 0
 
--- relocation j likewise
+-- byte i of a section, from its row on
+abbrev pub byte-in : List ℕ → ℕ → Option ℕ
+byte-in u i =
+    cond (ltb i (size-told (read-column (take 12 (drop 37 u))))) (byte-told (read-column (take 4 (drop (byte-place i) u)))) None
+
+-- relocation j of a section, from its row on and by its record
 abbrev pub relocation-in : List ℕ → Option Record → ℕ → Option Relocation
 relocation-in u None j = None
 relocation-in u (Some r) j =

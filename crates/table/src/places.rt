@@ -5,7 +5,7 @@ ghost use lib.ListN.{length, drop, take};
 ghost use Rattle.column.specs.Columns.{read-column};
 ghost use Rattle.row.specs.Reading.{read-row};
 ghost use Rattle.table.specs.Places.{sections-told, roots-told, record-told, relocation-told, root-told};
-ghost use Rattle.table.specs.Places.{rows-from, bytes-length, byte-place, relocation-place, byte-told, byte-in, relocation-in, root-in};
+ghost use Rattle.table.specs.Places.{rows-from, bytes-length, byte-told, size-told, byte-in, relocation-in, root-in};
 use column::read_column;
 use model::Record;
 use model::Relocation;
@@ -98,21 +98,39 @@ fn byte_at(rows: &[u8], at: usize) -> Option<u8>
     as_byte(read_column(front(tail(rows, at), 4)))
 }
 
-// Byte `i` of a section, from the section's row on.
-pub(crate) fn byte_in(rows: &[u8], i: u16) -> Option<u8>
-    ensures { λ r. ⌜ r ≡ byte-in (now (rows .entry)) (record-told (read-row (now (rows .entry)))) i ⌝ }
+// A number as a count of bytes, 0 where it is none.
+fn as_size(number: Option<i64>) -> u16
+    ensures { λ r. ⌜ r ≡ size-told number ⌝ }
 {
-    match record_in(rows) {
-        Some(section) => {
-            if i < section.size {
-                let row = usize::from(i / 16);
-                let column = usize::from(i % 16);
-                byte_at(rows, 74 + (66 * row + (1 + 4 * column)))
+    match number {
+        Some(value) => {
+            if value < 0 || value > 65535 {
+                0
             } else {
-                None
+                value as u16
             }
         }
-        None => None,
+        None => 0,
+    }
+}
+
+// How many bytes a section's row tells, without reading its other numbers.
+fn size_in(rows: &[u8]) -> u16
+    ensures { λ r. ⌜ r ≡ size-told (read-column (take 12 (drop 37 (now (rows .entry))))) ⌝ }
+{
+    as_size(read_column(front(tail(rows, 37), 12)))
+}
+
+// Byte `i` of a section, from the section's row on.
+pub(crate) fn byte_in(rows: &[u8], i: u16) -> Option<u8>
+    ensures { λ r. ⌜ r ≡ byte-in (now (rows .entry)) i ⌝ }
+{
+    if i < size_in(rows) {
+        let row = usize::from(i / 16);
+        let column = usize::from(i % 16);
+        byte_at(rows, 74 + (66 * row + (1 + 4 * column)))
+    } else {
+        None
     }
 }
 

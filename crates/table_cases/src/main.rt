@@ -72,8 +72,16 @@ fn run(rt: &LibcRuntime, bytes: &[u8]) -> Result<(u32, u32), AnyError> {
         }
         let name = next(bytes, at, 10);
         let end = next(bytes, name, 1);
-        let text = if name < end { &bytes[name + 1..end] } else { &bytes[end..end] };
-        let title = if at < name { &bytes[at + 1..name] } else { &bytes[at..at] };
+        let text = if name < end {
+            &bytes[name + 1..end]
+        } else {
+            &bytes[end..end]
+        };
+        let title = if at < name {
+            &bytes[at + 1..name]
+        } else {
+            &bytes[at..at]
+        };
         rt.stdout().write_all(title)?;
         if case(rt, text)? {
             good = good.saturating_add(1);

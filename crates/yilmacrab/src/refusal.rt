@@ -38,6 +38,9 @@ pub fn refuse(rt: &LibcRuntime, fault: Fault) -> Result<(), AnyError> {
     let number = fault.kind.number();
     let place = fault.place;
     let layer = fault.layer.number();
-    eprintln!(rt, "refused: {why} (refusal {number} at byte {place}, layer {layer})")?;
+    eprintln!(
+        rt,
+        "refused: {why} (refusal {number} at byte {place}, layer {layer})"
+    )?;
     Err("nothing was written".into())
 }

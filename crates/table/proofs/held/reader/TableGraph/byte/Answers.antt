@@ -8,4 +8,4 @@ use Rattle.table.proofs.Answering.{byte-held}
 use Rattle.table.proofs.held.reader.TableGraph.byte.Needs as need
 
 pub returns : need.returns
-returns c = c .byte-in .ensures ∙ ap (λ (u : List ℕ). byte-in u (record-told (read-row u)) (c .args .i)) (c .rows .ensures) ∙ byte-held (c .args .s) (c .args .i) (vec-items (c .args .self .now .text)) (c .args .self .now .starts) (c .args .self .now .fit)
+returns c = c .byte-in .ensures ∙ ap (λ (u : List ℕ). byte-in u (c .args .i)) (c .rows .ensures) ∙ byte-held (c .args .s) (c .args .i) (vec-items (c .args .self .now .text)) (c .args .self .now .starts) (c .args .self .now .fit)
