@@ -517,7 +517,7 @@ target-only t target h =
 relocation-only : (t : List ℕ) (e : Entry) → getD t 0 0 ≡ 82 → read-relocation t ≡ Ok e → Only t e
 relocation-only t e first h =
     let w = and-then-only _ _ e h in
-    let z = and-then-only _ _ e (w .2) in
+    let z = and-then-only (end-at t 61) _ e (w .2) in
     let o = and-then-only _ _ (w .0) (w .1) in
     let k = and-then-only _ _ (w .0) (o .2) in
     let g = and-then-only _ _ (w .0) (k .2) in
