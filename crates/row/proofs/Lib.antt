@@ -1,2 +1,3 @@
+mod Letters
 pub mod Bytes
 pub mod Rows

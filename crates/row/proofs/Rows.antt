@@ -145,6 +145,7 @@ natural-in : (w k : ℕ) (zs : List ℤ) (c limit n : ℕ) (rest : List ℕ)
     → getD zs k (pos 0) ≡ pos n
     → n ≤ limit
     → natural-at w (c ∷ chained w zs rest) (1 + w * k) limit ≡ Ok n
+unfolding natural-at
 natural-in w k zs c limit n rest some low fit e small =
     and-then-from (bounded limit) _ (pos n) (Ok n)
     (column-in w k zs c rest some low fit ∙ ap (λ (z : ℤ). Ok z) e)
@@ -353,7 +354,7 @@ reads-all (root s) h t = root-reads s h t
 reads-all (end k) h t = end-reads k h t
 
 pub row-reads : (e : Entry) → Ranged e → (t : List ℕ) → read-row (render e ++ t) ≡ Ok e
-unfolding reads
+unfolding reads read-row
 row-reads e h t = ap read-row (rendered e t) ∙ reads-all e h t
 
 -- only what is written is read
@@ -517,7 +518,7 @@ target-only t target h =
 relocation-only : (t : List ℕ) (e : Entry) → getD t 0 0 ≡ 82 → read-relocation t ≡ Ok e → Only t e
 relocation-only t e first h =
     let w = and-then-only _ _ e h in
-    let z = and-then-only _ _ e (w .2) in
+    let z = and-then-only (end-at t 61) _ e (w .2) in
     let o = and-then-only _ _ (w .0) (w .1) in
     let k = and-then-only _ _ (w .0) (o .2) in
     let g = and-then-only _ _ (w .0) (k .2) in
@@ -631,6 +632,7 @@ none-ok P c e h = let z : _≡_ {A = ℕ} 0 1 = cc in absurd (omega arith)
 pub row-only : (t : List ℕ) (e : Entry)
     → read-row t ≡ Ok e
     → Ranged e × (t ≡ render e ++ drop (length (render e)) t)
+unfolding read-row
 row-only t e h =
     branch (Only t e) (getD t 0 0) 72 _ _ e h (λ c r. header-only t e c r) λ h.
     branch (Only t e) (getD t 0 0) 83 _ _ e h (λ c r. section-only t e c r) λ h.

@@ -90,5 +90,5 @@ read-by c t =
     (cond (eqb c 69) (read-end t) (Err Letter))))))
 
 -- the row that the text begins with, whatever follows it
-abbrev pub read-row : List ℕ → Result Entry Cause
+unfoldable pub read-row : List ℕ → Result Entry Cause
 read-row t = read-by (getD t 0 0) t

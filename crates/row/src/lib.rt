@@ -1,7 +1,8 @@
 // Rows of a section table.
 ghost use mathlib.Core.Path.{_≡_};
+ghost use lib.ListN.{getD};
 ghost use Rattle.row.specs.Reading.{setting-of, target-of, counted, row-bytes, record-at, target-at, relocation-at};
-ghost use Rattle.row.specs.Reading.{read-header, read-section, read-bytes, read-relocation, read-root, read-end, read-row};
+ghost use Rattle.row.specs.Reading.{read-header, read-section, read-bytes, read-relocation, read-root, read-end, read-by, read-row};
 ghost use Rattle.row.specs.Told.{part-of, answer, Cut, Occupies, Read-back, Only-written, Ends-once, As-long};
 use model::Record;
 use model::Relocation;
@@ -222,7 +223,7 @@ fn read_end(text: &[u8]) -> Result<Row<'_>, Cause>
 
 // The row that the text begins with, by its letter.
 fn row_at(text: &[u8]) -> Result<Row<'_>, Cause>
-    ensures row { λ r. ⌜ answer r ≡ read-row (now (text .entry)) ⌝ }
+    ensures row { λ r. ⌜ answer r ≡ read-by (getD (now (text .entry)) 0 0) (now (text .entry)) ⌝ }
     ensures cut { λ r. ⌜ Cut (now (text .entry)) r ⌝ }
 {
     match byte_at(text, 0) as char {

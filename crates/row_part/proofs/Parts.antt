@@ -94,6 +94,7 @@ pub natural-held : (w : ℕ) (t : List ℕ) (at limit n : ℕ)
     → w ≤ 18
     → natural-at w t at limit ≡ Ok n
     → Held w t at (pos n) × (n ≤ limit)
+unfolding natural-at
 natural-held w t at limit n small h =
     let p = and-then-only (column-at w t at) (bounded limit) n h in
     let q = bounded-only limit (p .0) n (p .2) in
@@ -137,6 +138,7 @@ pub natural-read : (w : ℕ) (t : List ℕ) (at limit n : ℕ) (rest : List ℕ)
     → Fits w (pos n)
     → n ≤ limit
     → natural-at w t at limit ≡ Ok n
+unfolding natural-at
 natural-read w t at limit n rest some few e fits low =
     and-then-from (bounded limit) (column-at w t at) (pos n) (Ok n) (column-read w t at (pos n) rest some few e fits)
     (cond-true (leb n limit) _ _ (le-leb n limit low))

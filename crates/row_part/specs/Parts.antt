@@ -39,8 +39,12 @@ bounded limit (negsuc n) = Err Range
 abbrev pub within : ℤ → ℤ → ℤ → Result ℤ Cause
 within low high z = cond (leZ low z && leZ z high) (Ok z) (Err Range)
 
-abbrev pub natural-at : ℕ → List ℕ → ℕ → ℕ → Result ℕ Cause
-natural-at w t at limit = and-then (column-at w t at) (bounded limit)
+abbrev pub bounded-at : ℕ → List ℕ → ℕ → ℕ → Result ℕ Cause
+bounded-at w t at limit = and-then (column-at w t at) (bounded limit)
+
+-- a natural number in its columns
+unfoldable pub natural-at : ℕ → List ℕ → ℕ → ℕ → Result ℕ Cause
+natural-at w t at limit = bounded-at w t at limit
 
 -- byte 10 is due
 abbrev pub end-at : List ℕ → ℕ → Result ℕ Cause

@@ -3,7 +3,7 @@
 ghost use mathlib.Core.Path.{_≡_};
 ghost use lib.ListN.{getD};
 ghost use Rattle.model.specs.Laws.{highest};
-ghost use Rattle.row_part.specs.Parts.{column-at, natural-at, power-below, alignment-at, displacement-at, end-at, Ended};
+ghost use Rattle.row_part.specs.Parts.{column-at, bounded-at, natural-at, power-below, alignment-at, displacement-at, end-at, Ended};
 use column::read_column;
 use model::Target;
 
@@ -44,6 +44,12 @@ pub fn column_at(width: usize, text: &[u8], at: usize) -> Result<i64, Cause>
 pub fn short_at(width: usize, text: &[u8], at: usize, limit: u16) -> Result<u16, Cause>
     ensures { λ r. ⌜ r ≡ natural-at width (now (text .entry)) at limit ⌝ }
 {
+    bounded_short(width, text, at, limit)
+}
+
+fn bounded_short(width: usize, text: &[u8], at: usize, limit: u16) -> Result<u16, Cause>
+    ensures { λ r. ⌜ r ≡ bounded-at width (now (text .entry)) at limit ⌝ }
+{
     let number = column_at(width, text, at)?;
     if number < 0 || number > i64::from(limit) {
         return Err(Cause::Range);
@@ -54,6 +60,12 @@ pub fn short_at(width: usize, text: &[u8], at: usize, limit: u16) -> Result<u16,
 // A natural number of 32 bits, not above the limit.
 pub fn word_at(text: &[u8], at: usize, limit: u32) -> Result<u32, Cause>
     ensures { λ r. ⌜ r ≡ natural-at 12 (now (text .entry)) at limit ⌝ }
+{
+    bounded_word(text, at, limit)
+}
+
+fn bounded_word(text: &[u8], at: usize, limit: u32) -> Result<u32, Cause>
+    ensures { λ r. ⌜ r ≡ bounded-at 12 (now (text .entry)) at limit ⌝ }
 {
     let number = column_at(12, text, at)?;
     if number < 0 || number > i64::from(limit) {

@@ -1,7 +1,7 @@
 use Prim.Native.Nat.{ℕ}
 use mathlib.Core.Path.{_≡_, sym, _∙_}
 use native.Mathlib.Omega.{arith}
-use Rattle.row.proofs.Bytes.{other-letter}
+use Rattle.row.proofs.Letters.{other-letter}
 use Rattle.row.proofs.row_at.Needs as need
 
 pub returns-in-rest : need.returns-in-rest
