@@ -22,7 +22,7 @@ use Rattle.table.specs.Notes.{starts-of}
 use Rattle.table.specs.Places.{sections-told, roots-told, record-told, rows-from, byte-in, relocation-in, root-in}
 use Rattle.table.specs.Held.{held}
 use Rattle.table.proofs.Outcomes.{held-parts, held-cases}
-use Rattle.table.proofs.Questions.{sections-right, roots-right, record-right, none-byte, byte-right, relocation-right, root-right}
+use Rattle.table.proofs.Questions.{sections-right, roots-right, none-read, record-right, none-byte, byte-right, relocation-right, root-right}
 
 formed-from : (t : List ℕ) → fault-of t ≡ None → bad-row t ≡ None
 formed-from t h = go (bad-row t) h
@@ -44,15 +44,15 @@ by-text P none some t xs h =
     (λ f. subst (P t) (sym (p .1)) (some t (formed-from t f))) (held-cases t (p .0))
 
 pub count-held : (t xs : List ℕ) → held t xs ≡ true → sections-told (read-row t) ≡ count-of (graph-of t)
-count-held = by-text (λ t xs. sections-told (read-row t) ≡ count-of (graph-of t)) (λ xs. refl) sections-right
+count-held = by-text (λ t xs. sections-told (read-row t) ≡ count-of (graph-of t)) (λ xs. ap sections-told none-read) sections-right
 
 pub roots-held : (t xs : List ℕ) → held t xs ≡ true → roots-told (read-row t) ≡ root-count-of (graph-of t)
-roots-held = by-text (λ t xs. roots-told (read-row t) ≡ root-count-of (graph-of t)) (λ xs. refl) roots-right
+roots-held = by-text (λ t xs. roots-told (read-row t) ≡ root-count-of (graph-of t)) (λ xs. ap roots-told none-read) roots-right
 
 pub record-held : (s : ℕ) (t xs : List ℕ) → held t xs ≡ true → record-told (read-row (rows-from t (getD xs s 0))) ≡ record-of (graph-of t) s
 record-held s =
     by-text (λ t xs. record-told (read-row (rows-from t (getD xs s 0))) ≡ record-of (graph-of t) s)
-    (λ xs. ap (λ (u : List ℕ). record-told (read-row u)) (none-from (getD xs s 0)))
+    (λ xs. ap (λ (u : List ℕ). record-told (read-row u)) (none-from (getD xs s 0)) ∙ ap record-told none-read)
     (λ t f. record-right t f s)
 
 pub byte-held : (s i : ℕ) (t xs : List ℕ) → held t xs ≡ true → byte-in (rows-from t (getD xs s 0)) i ≡ byte-of (graph-of t) s i

@@ -30,7 +30,8 @@ use Rattle.model.specs.declared.Target.the-variants.{Section}
 use Rattle.model.specs.Graph.{Body, Graph, record-in, section-of, told-record, told-byte, told-relocation}
 use Rattle.model.specs.Laws.{Lawful-body, Lawful-relocation}
 use Rattle.lines.specs.Lines.{lines}
-use Rattle.row.specs.declared.Cause.{Cause}
+use Rattle.row_part.specs.declared.Cause.{Cause}
+use Rattle.row_part.specs.declared.Cause.the-variants.{Letter}
 use Rattle.row.specs.Entry.{Entry, header, section, bytes, relocation, root, end, numbers, render, Ranged, Ranged-record}
 use Rattle.row.specs.Reading.{read-row}
 use Rattle.row.proofs.Rows.{fits}
@@ -66,6 +67,11 @@ size-column s r t h =
     ap (λ (xs : List ℕ). read-column (take 12 (drop 36 xs))) (append-assoc (columns 12 zs) (10 ∷ []) t)
     ∙ ap read-column (columns-at 12 3 zs (10 ∷ t) (omega arith) (all-weaker (Fits 12) (λ z. length (signed z) ≤ 12) (λ z f. f .0) zs (fits (section s r) h)))
     ∙ column-reads 12 (pos (r .size)) (omega arith)
+
+-- no text begins with no row
+pub none-read : read-row [] ≡ Err Letter
+unfolding read-row
+none-read = refl
 
 -- where there is no row there is no size, and so no byte
 pub none-byte : (i : ℕ) → byte-in [] i ≡ None
@@ -144,7 +150,7 @@ module _ (t : List ℕ) (formed : bad-row t ≡ None) where
       go (Some b) p h = (h .1, rows-some p (h .0) ∙ h .2)
 
   record-row : (s : ℕ) (u : List ℕ) (o : Option Body) → section-of (graph-of t) s ≡ o → Rows s o u → record-told (read-row u) ≡ told-record o
-  record-row s u None e h = ap (λ (v : List ℕ). record-told (read-row v)) h
+  record-row s u None e h = ap (λ (v : List ℕ). record-told (read-row v)) h ∙ ap record-told none-read
   record-row s u (Some b) e h = ap record-told (stands-read u 0 (section s (record-in b)) _ (section-ranged s b e) (h .1))
 
   pub record-right : (s : ℕ) → record-told (read-row (rows-from t (getD (starts-of t) s 0))) ≡ told-record (section-of (graph-of t) s)
