@@ -1,0 +1,4 @@
+pub mod Drawn
+pub mod State
+pub mod Promise
+pub mod Laws
