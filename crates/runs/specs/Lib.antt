@@ -2,3 +2,4 @@ pub mod Drawn
 pub mod State
 pub mod Promise
 pub mod Laws
+pub mod Examples

@@ -13,9 +13,9 @@ use Rattle.model.specs.declared.Setting.the-variants.{Foldable, Pinned}
 use Rattle.model.specs.declared.Target.{Target}
 use Rattle.model.specs.declared.Target.the-variants.{Section, Outside}
 use Rattle.model.specs.declared.Relocation.{Relocation}
-use Rattle.model.specs.Graph.{Body, Graph, section-of, count-of}
+use Rattle.model.specs.Graph.{Body, Graph, Present, section-of, count-of}
 use Rattle.steps.specs.Below.{all-below, count-below, least-below, table}
-use Rattle.unfolding.specs.Telling.{Telling, Agree-by, agrees-by, setting-of, with-relocations}
+use Rattle.unfolding.specs.Telling.{Telling, Agree-by, Alike-by, agrees-by, setting-of, with-relocations}
 
 abbrev pub may-fold : Option Setting → Bool
 may-fold None = false
@@ -69,6 +69,10 @@ class-by T g k s = cond (foldable g s) (least-below (grouped T g k s) s) s
 -- the representative: the lowest that agrees at every depth, which agreement at the depth of the count decides
 unfoldable pub rep-by : {M F : Type 0} → Telling M F → Graph → ℕ → ℕ
 rep-by T g s = class-by T g (count-of g) s
+
+-- no two different present sections are alike
+abbrev pub Apart-by : {M F : Type 0} → Telling M F → Graph → Type 0
+Apart-by T g = (s t : ℕ) → Present g s → Present g t → Alike-by T g s g t → s ≡ t
 
 -- relocations with their targets put elsewhere
 

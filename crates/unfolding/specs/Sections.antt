@@ -12,7 +12,7 @@ use Rattle.model.specs.declared.Setting.the-variants.{Foldable, Pinned}
 use Rattle.model.specs.Graph.{Body, Graph, Present}
 use Rattle.unfolding.specs.Depth.{same-list, Unfolding}
 use Rattle.unfolding.specs.Telling.{Telling, look, Agree-by, Alike-by, agrees-by}
-use Rattle.unfolding.specs.Groups.{Stable-by, rounds-by, rep-by, folded-by, merged-by}
+use Rattle.unfolding.specs.Groups.{Stable-by, rounds-by, rep-by, Apart-by, folded-by, merged-by}
 use Rattle.unfolding.specs.Reach.{Reached}
 
 -- what is told of every section, at depth 0 too; `absent` is the mark of a section that is not there
@@ -80,7 +80,7 @@ merged g = merged-by rules g
 
 -- no two different present sections are alike
 abbrev pub Apart : Graph → Type 0
-Apart g = (s t : ℕ) → Present g s → Present g t → Alike g s g t → s ≡ t
+Apart g = Apart-by rules g
 
 -- every present section is reached
 abbrev pub All-reached : Graph → Type 0
