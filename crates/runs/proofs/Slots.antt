@@ -126,14 +126,15 @@ found-cases slots d P into s h = upto (suc s) s (omega arith) h
         let same : found-at slots s ≡ found-at slots t = found-folded slots d s t e in
         ⊎-elim
         (λ r.
-        inl
-        (r .0,
-        record {
-          found = same ∙ r .1 .found;
-          below = omega (arith, r .1 .below);
-          untouched = r .1 .untouched;
-          holds = r .1 .holds;
-        }))
+        inl (
+          r .0,
+          record {
+            found = same ∙ r .1 .found;
+            below = omega (arith, r .1 .below);
+            untouched = r .1 .untouched;
+            holds = r .1 .holds;
+          },
+        ))
         (λ r. inr (same ∙ r))
         (ih t (omega arith) (into s t e))
     go k s l h ih Swept e = inr (found-swept slots s e)
@@ -208,15 +209,15 @@ found-changed old new d each s = upto (suc s) s (omega arith)
     go k s l ih (Folded t) e =
         let less : t < s = d s t e in
         let apart : Folded t ≡ Untouched → ⊥ = λ p.
-          let z : _≡_ {A = ℕ} 0 1 = cc in
-          omega arith
+        let z : _≡_ {A = ℕ} 0 1 = cc in
+        omega arith
         in
         let h : found-at new s ≡ found-at new t = found-folded new d′ s t (stays s (Folded t) apart e (each s)) in
         h ∙ ih t (omega arith) ∙ ap (next-place new) (sym (found-folded old d s t e))
     go k s l ih Swept e =
         let apart : Swept ≡ Untouched → ⊥ = λ p.
-          let z : _≡_ {A = ℕ} 0 1 = cc in
-          omega arith
+        let z : _≡_ {A = ℕ} 0 1 = cc in
+        omega arith
         in
         found-swept new s (stays s Swept apart e (each s)) ∙ ap (next-place new) (sym (found-swept old s e))
 

@@ -10,6 +10,7 @@ use Rattle.model.specs.Graph.{Graph, root-count-of, root-of}
 use Rattle.model.specs.Laws.{Valid}
 use Rattle.unfolding.specs.Groups.{Fold-able, present-count}
 use Rattle.unfolding.specs.Sections.{Alike}
+use Rattle.least.specs.Theorems.{Alike-roots}
 use Rattle.calls.specs.declared.Call.{Call}
 use Rattle.calls.specs.declared.Call.the-variants.{Bind, Pin, Root, Sweep, Fold}
 use Rattle.calls.specs.declared.Place.the-variants.{At}
@@ -46,11 +47,6 @@ Folds calls = some-call is-fold calls ≡ true
 abbrev pub Placed : State → ℕ → ℕ → Type 0
 Placed st s p = place-of st s ≡ Ok (At p)
 
--- the two have as many roots, and these unfold alike, one by one, at every depth
-pub record Roots-alike (g h : Graph) : Type 0 where
-  pub as-many : root-count-of g ≡ root-count-of h
-  pub alike : (j s t : ℕ) → root-of g j ≡ Some s → root-of h j ≡ Some t → Alike g s h t
-
 -- root s of the drawn graph, at position j, has a place, which is the pile's root at that position and unfolds in the pile at every
 -- depth as s does in the drawn graph
 pub record Root-kept (st : State) (j s : ℕ) : Type 0 where
@@ -82,7 +78,7 @@ pub record Promise (g : Graph) (calls : List Call) : Type 0 where
       Folds calls →
       (h : Graph) →
       Valid h →
-      Roots-alike (after g calls .drawn) h →
+      Alike-roots (after g calls .drawn) h →
       present-count (after g calls .graph) ≤ present-count h
   -- and no later calls change anything: not the pile's graph, nor its slots and with them the places
   pub settled : Sweeps calls → Folds calls → (more : List Call) → after g (calls ++ more) ≡ after g calls
