@@ -1,3 +1,6 @@
 pub mod Slots
 pub mod Draws
 pub mod Refusing
+pub mod Invariant
+pub mod Closing
+pub mod Steps
