@@ -11,7 +11,7 @@ use Rattle.std.specs.declared.option.Option.{Option}
 use Rattle.std.specs.declared.option.Option.the-variants.{None, Some}
 use Rattle.std.specs.Options.{mapped, isSome}
 use Rattle.std.proofs.shelf.Tests.{both-ways, cases-bool, cond-true, cond-false, and-parts, and-from, and-left, and-right, or-cases, eqb-true, eqb-false, eq-eqb, not-true, not-from-false, not-from-true, leb-false}
-use Rattle.std.proofs.shelf.Lists.{getD-past, length-replicate}
+use Rattle.std.proofs.shelf.Lists.{getD-past, ext-getD}
 use Rattle.fault.specs.declared.Fault.{Fault}
 use Rattle.model.specs.Graph.{Body, Graph, Present, section-of, count-of, root-of, root-count-of}
 use Rattle.model.specs.Laws.{Valid}
@@ -101,6 +101,16 @@ module _ (g : Graph) (st : State) (a b : Bool) (i : Invariant g st a b) (stays :
       (new s)
       (slot-of (st .slots) s)
       (and-left (present (st .graph) s) (not (stays s)) e)
+
+  -- where every present section stays, nothing happens to the slots
+  pub next-same : ((s : ℕ) → Present (st .graph) s → stays s ≡ true) → next-slots ≡ st .slots
+  next-same all =
+      ext-getD
+      Untouched
+      next-slots
+      (st .slots)
+      (slots-length (new-slot (st .graph) stays new) (count-of (st .graph)) (st .slots) (omega (arith, i .long, i .valid .few)))
+      (λ s _. ⊎-elim (λ p. next-stays s (all s p)) (λ p. next-absent s p) (cases-bool (present (st .graph) s)))
 
   next-changed : (s : ℕ) → Changed (st .slots) next-slots s
   next-changed s = go (present (st .graph) s) (stays s) refl refl

@@ -4,3 +4,5 @@ pub mod Refusing
 pub mod Invariant
 pub mod Closing
 pub mod Steps
+pub mod Places
+pub mod Promised
