@@ -6,3 +6,5 @@ pub mod Closing
 pub mod Steps
 pub mod Places
 pub mod Promised
+pub mod Telling
+pub mod Examples
