@@ -84,8 +84,8 @@ module _ (g : Graph) (st : State) (a b : Bool) (i : Invariant g st a b) where
         stays = λ s. (
           sweep-sweeps (st .graph) .goes s,
           λ p.
-          swept-present (st .graph) s ∙
-          and-from (present (st .graph) s) (reached (st .graph) s) (p .0) (reached-yes (st .graph) s (p .0) (p .1)),
+              swept-present (st .graph) s ∙
+              and-from (present (st .graph) s) (reached (st .graph) s) (p .0) (reached-yes (st .graph) s (p .0) (p .1)),
         );
         keeps =
             λ s p e q.
