@@ -66,6 +66,10 @@ refuses st =
       root-accepted = λ s c p a r. rw (c, there st s p, roots-have-room a r);
       sweep-accepted = refl;
       fold-accepted = refl;
+      told-closed = record { number = refl; place = refl; layer = refl };
+      told-no-section = λ s. record { number = refl; place = refl; layer = refl };
+      told-bound = λ e. record { number = refl; place = refl; layer = refl };
+      told-full = record { number = refl; place = refl; layer = refl };
       alters-nothing = λ c f h. ap (λ (o : Option Fault). unless o st (moved st c)) h;
       answers-fault = λ c f h. ap (λ (o : Option Fault). refused-or o (answered st c)) h;
     }

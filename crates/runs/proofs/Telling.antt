@@ -2,7 +2,7 @@
 use Prim.Native.Nat.{ℕ}
 use mathlib.Core.Path.{_≡_, refl, sym, ap, subst, _∙_}
 use mathlib.Core.Logic.{inl, inr, ⊎-elim}
-use mathlib.Core.Bool.{Bool}
+use mathlib.Core.Bool.{Bool, false}
 use mathlib.Core.List.{List}
 use Rattle.std.proofs.shelf.Tests.{cases-bool, and-from}
 use Rattle.model.specs.Graph.{Graph, Present}
@@ -37,6 +37,7 @@ module _ (g : Graph) (st : State) (a b : Bool) (i : Invariant g st a b) where
         drawn-count = i .drawn-count;
         presence = i .presence;
         slots = i .long;
+        blank = λ s n. i .blank s (missing s n);
         unchanged = λ e. i .unchanged e .0;
         own =
             λ e s p.
@@ -45,8 +46,7 @@ module _ (g : Graph) (st : State) (a b : Bool) (i : Invariant g st a b) where
         beyond = λ s h. place-beyond st s (rw (i .drawn-count) h);
         absent =
             λ s h n.
-            place-absent st s (rw (i .drawn-count) h)
-            (⊎-elim (λ p. absurd (n (sym (i .presence s) ∙ p))) (λ p. p) (cases-bool (present (st .drawn) s)));
+            place-absent st s (rw (i .drawn-count) h) (missing s n);
         somewhere =
             λ s p.
             ⊎-elim
@@ -64,6 +64,10 @@ module _ (g : Graph) (st : State) (a b : Bool) (i : Invariant g st a b) where
     where
       below : (s : ℕ) → Present g s → Present (st .drawn) s
       below s p = i .presence s ∙ p
+
+      missing : (s : ℕ) → (Present g s → ⊥) → present (st .drawn) s ≡ false
+      missing s n =
+          ⊎-elim (λ p. absurd (n (sym (i .presence s) ∙ p))) (λ p. p) (cases-bool (present (st .drawn) s))
 
   -- where a section is found after a sweep, from where it was found before
 

@@ -10,6 +10,7 @@ use Rattle.std.specs.declared.option.Option.the-variants.{None, Some}
 use Rattle.std.specs.declared.result.Result.the-variants.{Ok, Err}
 use Rattle.std.specs.Options.{mapped}
 use Rattle.fault.specs.declared.Fault.{Fault}
+use Rattle.fault.specs.Numbers.{kind-number, layer-number}
 use Rattle.model.specs.declared.Setting.the-variants.{Pinned}
 use Rattle.model.specs.declared.Target.the-variants.{Section, Outside}
 use Rattle.model.specs.declared.Relocation.{Relocation}
@@ -19,12 +20,13 @@ use Rattle.model.specs.Laws.{Valid}
 use Rattle.unfolding.specs.Groups.{Fold-able, foldable, present, present-count}
 use Rattle.unfolding.specs.Reach.{Reached}
 use Rattle.unfolding.specs.Sections.{Alike, Stable}
+use Rattle.calls.specs.declared.Slot.the-variants.{Untouched}
 use Rattle.calls.specs.declared.Call.{Call}
 use Rattle.calls.specs.declared.Call.the-variants.{Bind, Pin, Root, Sweep, Fold}
 use Rattle.calls.specs.declared.Place.the-variants.{Absent, Swept as Nowhere}
 use Rattle.calls.specs.declared.Answer.the-variants.{Refused, Dropped, Merged}
 use Rattle.runs.specs.Drawn.{bind, pin, root, drawn-by}
-use Rattle.runs.specs.State.{State, start, step, answer, refusal, after, place-of, closed-fault, no-section, bound-before, full}
+use Rattle.runs.specs.State.{State, start, step, answer, refusal, after, place-of, slot-of, closed-fault, no-section, bound-before, full}
 use Rattle.runs.specs.Promise.{is-sweep, is-fold, some-call, Placed}
 
 -- what binds, pins and roots do to a graph, by the questions
@@ -121,6 +123,12 @@ pub data Among (e : ℕ) : List ℕ → Type 0 where
   here : {xs : List ℕ} → Among e (e ∷ xs)
   later : {x : ℕ} {xs : List ℕ} → Among e xs → Among e (x ∷ xs)
 
+-- what a refusal is known by outside: its number, its place, and layer 3
+pub record Told (f : Fault) (n p : ℕ) : Type 0 where
+  pub number : kind-number (f .kind) ≡ n
+  pub place : f .place ≡ p
+  pub layer : layer-number (f .layer) ≡ 3
+
 -- when each refusal comes, in the order of the checks: 7, then 8, then 9, then 10
 pub record Refusals (st : State) : Type 0 where
   pub bind-closed : (e s : ℕ) → st .closed ≡ true → refusal st (Bind e s) ≡ Some closed-fault
@@ -165,8 +173,13 @@ pub record Refusals (st : State) : Type 0 where
       st .added < 64 →
       root-count-of (st .drawn) < 4096 →
       refusal st (Root s) ≡ None
+  -- a sweep and a fold are never refused
   pub sweep-accepted : refusal st Sweep ≡ None
   pub fold-accepted : refusal st Fold ≡ None
+  pub told-closed : Told closed-fault 7 0
+  pub told-no-section : (s : ℕ) → Told (no-section s) 8 s
+  pub told-bound : (e : ℕ) → Told (bound-before e) 9 e
+  pub told-full : Told full 10 0
   -- a refused call alters nothing and answers the fault
   pub alters-nothing : (c : Call) (f : Fault) → refusal st c ≡ Some f → step st c ≡ st
   pub answers-fault : (c : Call) (f : Fault) → refusal st c ≡ Some f → answer st c ≡ Refused f
@@ -194,8 +207,9 @@ pub record Tells (g : Graph) (st : State) : Type 0 where
   pub count : count-of (st .graph) ≡ count-of g
   pub drawn-count : count-of (st .drawn) ≡ count-of g
   pub presence : (s : ℕ) → present (st .drawn) s ≡ present g s
-  -- a slot for each section that there may be
+  -- a slot for each section that there may be, untouched where there is none
   pub slots : length (st .slots) ≡ 1024
+  pub blank : (s : ℕ) → (Present g s → ⊥) → slot-of (st .slots) s ≡ Untouched
   -- until a sweep or fold, the pile is its drawn graph, and every present section is at its own number
   pub unchanged : st .closed ≡ false → st .graph ≡ st .drawn
   pub own : st .closed ≡ false → (s : ℕ) → Present g s → Placed st s s
