@@ -9,3 +9,4 @@ pub mod Promised
 pub mod Telling
 pub mod Examples
 pub mod Seen
+pub mod Noted

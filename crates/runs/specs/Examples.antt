@@ -3,16 +3,20 @@ use Prim.Native.Nat.{ℕ, suc}
 use mathlib.Core.Path.{_≡_}
 use mathlib.Core.List.{List, [], _∷_, _++_}
 use lib.ListN.{replicate}
-use lib.IntN.{pos, negsuc}
-use Rattle.std.specs.declared.option.Option.the-variants.{None}
+use lib.IntN.{ℤ, pos, negsuc}
+use Rattle.std.specs.declared.option.Option.{Option}
+use Rattle.std.specs.declared.option.Option.the-variants.{None, Some}
 use Rattle.std.specs.declared.result.Result.{Result}
 use Rattle.std.specs.declared.result.Result.the-variants.{Ok, Err}
 use Rattle.std.specs.shelf.Lists.{All}
 use Rattle.fault.specs.declared.Fault.{Fault}
-use Rattle.model.specs.Graph.{Graph, empty, count-of}
+use Rattle.model.specs.Graph.{Body, Graph, empty, count-of}
 use Rattle.steps.specs.Below.{table}
 use Rattle.unfolding.specs.Groups.{present-count}
-use Rattle.unfolding.specs.Examples.{plain, calls, names, rootless}
+use Rattle.model.specs.declared.Setting.the-variants.{Foldable}
+use Rattle.model.specs.declared.Target.{Target}
+use Rattle.model.specs.declared.Target.the-variants.{Section, Outside}
+use Rattle.model.specs.declared.Relocation.{Relocation}
 use Rattle.calls.specs.declared.Call.{Call}
 use Rattle.calls.specs.declared.Call.the-variants.{Bind, Pin, Root, Sweep, Fold}
 use Rattle.calls.specs.declared.Place.{Place}
@@ -58,13 +62,38 @@ swept-away = Ok Swept
 abbrev pub past : ℕ → Result Place Fault
 past n = Err (no-section n)
 
+-- a foldable section of one byte, one that differs in the byte, and a relocation to a section or an outside name
+
+abbrev pub of-byte : ℕ → List Relocation → Option Body
+of-byte byte rs =
+    Some (record { flags = 6; alignment = 1; bytes = byte ∷ []; setting = Foldable; relocations = rs })
+
+abbrev pub plain : List Relocation → Option Body
+plain rs = of-byte 195 rs
+
+abbrev pub other : Option Body
+other = of-byte 144 []
+
+abbrev pub aiming : Target → ℤ → List Relocation
+aiming target d = record { offset = 0; kind = 4; target = target; displacement = d } ∷ []
+
+abbrev pub calls : ℕ → List Relocation
+calls t = aiming (Section t) (pos 0)
+
+abbrev pub names : ℕ → ℤ → List Relocation
+names e d = aiming (Outside e) d
+
+-- a graph without roots
+abbrev pub unrooted : List (Option Body) → Graph
+unrooted sections = record { sections = sections; roots = [] }
+
 -- only 1 and 2 present, alike; root 2
 abbrev pub pair : Graph
 pair = record { sections = None ∷ plain [] ∷ plain [] ∷ []; roots = 2 ∷ [] }
 
 -- one section
 abbrev pub single : Graph
-single = rootless (plain [] ∷ [])
+single = unrooted (plain [] ∷ [])
 
 abbrev pub examples : List Example
 examples =
@@ -76,14 +105,26 @@ examples =
     } ∷
     -- two alike share
     record {
-      below = rootless (plain [] ∷ plain [] ∷ []);
+      below = unrooted (plain [] ∷ plain [] ∷ []);
       calls = Fold ∷ [];
       outcome =
           record { answers = Merged 1 1 0 ∷ []; places = at 0 ∷ at 0 ∷ past 2 ∷ []; roots = []; present = 1 };
     } ∷
+    -- also with another between them
+    record {
+      below = unrooted (plain [] ∷ other ∷ plain [] ∷ []);
+      calls = Fold ∷ [];
+      outcome =
+          record {
+            answers = Merged 2 1 1 ∷ [];
+            places = at 0 ∷ at 1 ∷ at 0 ∷ past 3 ∷ [];
+            roots = [];
+            present = 2;
+          };
+    } ∷
     -- and are both swept if no root reaches the one that stays
     record {
-      below = rootless (plain [] ∷ plain [] ∷ []);
+      below = unrooted (plain [] ∷ plain [] ∷ []);
       calls = Fold ∷ Sweep ∷ [];
       outcome =
           record {
@@ -143,7 +184,7 @@ examples =
     } ∷
     -- 0 names what 1 calls: apart, unless the name is bound to it
     record {
-      below = rootless (plain (names 7 4 (pos 0)) ∷ plain (calls 2) ∷ plain [] ∷ []);
+      below = unrooted (plain (names 7 (pos 0)) ∷ plain (calls 2) ∷ plain [] ∷ []);
       calls = Fold ∷ [];
       outcome =
           record {
@@ -154,7 +195,7 @@ examples =
           };
     } ∷
     record {
-      below = rootless (plain (names 7 4 (pos 0)) ∷ plain (calls 2) ∷ plain [] ∷ []);
+      below = unrooted (plain (names 7 (pos 0)) ∷ plain (calls 2) ∷ plain [] ∷ []);
       calls = Bind 7 2 ∷ Fold ∷ [];
       outcome =
           record {
@@ -166,7 +207,7 @@ examples =
     } ∷
     -- bound to a section that is not like it, they stay apart
     record {
-      below = rootless (plain (names 7 4 (pos 0)) ∷ plain (calls 2) ∷ plain [] ∷ []);
+      below = unrooted (plain (names 7 (pos 0)) ∷ plain (calls 2) ∷ plain [] ∷ []);
       calls = Bind 7 1 ∷ Fold ∷ [];
       outcome =
           record {
@@ -178,7 +219,7 @@ examples =
     } ∷
     -- the displacement is kept, and keeps them apart
     record {
-      below = rootless (plain (names 7 4 (negsuc 3)) ∷ plain (calls 2) ∷ plain [] ∷ []);
+      below = unrooted (plain (names 7 (negsuc 3)) ∷ plain (calls 2) ∷ plain [] ∷ []);
       calls = Bind 7 2 ∷ Fold ∷ [];
       outcome =
           record {
@@ -190,10 +231,22 @@ examples =
     } ∷
     -- a pin keeps two alike apart
     record {
-      below = rootless (plain [] ∷ plain [] ∷ []);
+      below = unrooted (plain [] ∷ plain [] ∷ []);
       calls = Pin 1 ∷ Fold ∷ [];
       outcome =
           record { answers = Accepted ∷ Merged 2 0 0 ∷ []; places = at 0 ∷ at 1 ∷ past 2 ∷ []; roots = []; present = 2 };
+    } ∷
+    -- and leaves the others to share
+    record {
+      below = unrooted (plain [] ∷ plain [] ∷ plain [] ∷ []);
+      calls = Pin 0 ∷ Fold ∷ [];
+      outcome =
+          record {
+            answers = Accepted ∷ Merged 2 1 0 ∷ [];
+            places = at 0 ∷ at 1 ∷ at 1 ∷ past 3 ∷ [];
+            roots = [];
+            present = 2;
+          };
     } ∷
     -- an added root is the last, and is kept by the sweep
     record {

@@ -3,4 +3,5 @@ pub mod State
 pub mod Promise
 pub mod Laws
 pub mod Seen
+pub mod Noted
 pub mod Examples

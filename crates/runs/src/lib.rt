@@ -3,6 +3,7 @@
 ghost use Rattle.runs.specs.Promise.{Promise-stands};
 ghost use Rattle.runs.specs.Laws.{Draws, Refuses, Run-follows, Pile-tells, Closes-right};
 ghost use Rattle.runs.specs.Seen.{Pile-seen};
+ghost use Rattle.runs.specs.Noted.{Notes};
 ghost use Rattle.runs.specs.Examples.{Examples-hold};
 
 // The whole promise, for every valid graph and every list of calls: what a fold joins, the roots, that nothing smaller has roots alike,
@@ -16,6 +17,13 @@ pub fn promise_stands() -> u8
 // What a bind, a pin and a root do to a section graph.
 pub fn calls_draw() -> u8
     ensures { λ _. ⌜ Draws ⌝ }
+{
+    0
+}
+
+// The drawn graph can be told at once from where targets go, which sections are pinned and which roots were added.
+pub fn calls_noted() -> u8
+    ensures { λ _. ⌜ Notes ⌝ }
 {
     0
 }
