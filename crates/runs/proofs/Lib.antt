@@ -1,0 +1,12 @@
+pub mod Slots
+pub mod Draws
+pub mod Refusing
+pub mod Invariant
+pub mod Closing
+pub mod Steps
+pub mod Places
+pub mod Promised
+pub mod Telling
+pub mod Examples
+pub mod Seen
+pub mod Noted

@@ -1,0 +1,7 @@
+pub mod Drawn
+pub mod State
+pub mod Promise
+pub mod Laws
+pub mod Seen
+pub mod Noted
+pub mod Examples
