@@ -15,14 +15,14 @@ use Rattle.model.specs.declared.Target.{Target}
 use Rattle.model.specs.declared.Target.the-variants.{Section, Outside}
 use Rattle.model.specs.declared.Relocation.{Relocation}
 use Rattle.model.specs.Graph.{Body, told-record, told-relocation}
-use Rattle.graph.specs.Bytes.{bytes-in, mixed, digest}
+use Rattle.graph.specs.Bytes.{bytes-in}
 use Rattle.graph.proofs.Places.{drop-nth, nth-none}
 use Rattle.unfolding.specs.Depth.{Arm, told-map, same-integer, same-list}
 use Rattle.unfolding.specs.Telling.{told-target}
 use Rattle.unfolding.specs.Sections.{Face, face-of, same-face, rules}
 use Rattle.unfolding.proofs.Same.{decides-both, integer-decides, list-decides}
 use Rattle.unfolding.proofs.Rules.{lawful-rules}
-use Rattle.content.specs.Core.{unnamed, bare, same-outside, same-bare, Core, core-of, same-core, told-count, told-face, same-told-face, mixed-arm, mixed-arms, digest-core}
+use Rattle.content.specs.Core.{unnamed, bare, same-outside, same-bare, Core, core-of, same-core, told-count, told-face, same-told-face, mixed-arm, mixed-arms}
 use Rattle.content.specs.Aims.{relocations-in}
 use Rattle.content.proofs.Tested.{relocation-nth, count-length}
 
@@ -130,22 +130,6 @@ core-parts a b f l y e h d =
     (same-list same-bare (relocations-in a) (relocations-in b))))
 
 -- the digest, relocation by relocation
-
-pub digest-start :
-    (o : Option Body) (f : ℕ × ℕ) (h : ℕ) →
-    f ≡ told-face (told-record o) →
-    h ≡ mixed (mixed (digest (bytes-in o)) (f .0)) (f .1) →
-    mixed-arms h (map bare (relocations-in o)) ≡ digest-core (core-of o)
-digest-start o f h e k =
-    ap (λ (x : ℕ). mixed-arms x (map bare (relocations-in o)))
-    (k ∙ (ap (λ (z : ℕ × ℕ). mixed (mixed (digest (bytes-in o)) (z .0)) (z .1)) e ∙ start o))
-  where
-    start :
-        (o : Option Body) →
-        mixed (mixed (digest (bytes-in o)) (told-face (told-record o) .0)) (told-face (told-record o) .1) ≡
-        mixed (mixed (digest (face-of o .bytes)) (face-of o .flags)) (face-of o .alignment)
-    start None = refl
-    start (Some b) = refl
 
 pub digest-some :
     (o : Option Body) (h j : ℕ) (r : Relocation) →

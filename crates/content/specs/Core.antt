@@ -6,16 +6,14 @@ use lib.Dec.{eqb}
 use lib.IntN.{natAbs}
 use Rattle.std.specs.declared.option.Option.{Option}
 use Rattle.std.specs.declared.option.Option.the-variants.{None, Some}
-use Rattle.model.specs.declared.Setting.{Setting}
-use Rattle.model.specs.declared.Setting.the-variants.{Foldable, Pinned}
 use Rattle.model.specs.declared.Target.{Target}
 use Rattle.model.specs.declared.Target.the-variants.{Section, Outside}
 use Rattle.model.specs.declared.Relocation.{Relocation}
 use Rattle.model.specs.declared.Record.{Record}
 use Rattle.model.specs.Graph.{Body}
 use Rattle.graph.specs.Bytes.{mixed, digest}
-use Rattle.unfolding.specs.Depth.{Told, outside, section, Link, Arm, told-map, arm-map, same-integer, same-list}
-use Rattle.unfolding.specs.Telling.{told-target, arm}
+use Rattle.unfolding.specs.Depth.{Told, outside, section, Arm, arm-map, same-integer, same-list}
+use Rattle.unfolding.specs.Telling.{arm}
 use Rattle.unfolding.specs.Groups.{may-fold}
 use Rattle.unfolding.specs.Sections.{Face, face-of, same-face}
 use Rattle.content.specs.Aims.{relocations-in}

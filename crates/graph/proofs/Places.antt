@@ -2,14 +2,11 @@
 use Prim.Native.Nat.{ℕ, zero, suc, _+_, _≤_, _<_}
 use native.Mathlib.Numerals.{add-one}
 use native.Mathlib.Omega.{arith}
-use mathlib.Core.Path.{_≡_, refl, sym, ap, subst, _∙_}
+use mathlib.Core.Path.{_≡_, refl}
 use mathlib.Core.List.{List, [], _∷_}
 use lib.ListN.{length, drop}
-use Rattle.std.specs.declared.option.Option.{Option}
 use Rattle.std.specs.declared.option.Option.the-variants.{None, Some}
 use Rattle.std.specs.Finite.{nth}
-use Rattle.std.proofs.shelf.Lists.{drop-all}
-use Rattle.std.proofs.shelf.Maps.{nth-past}
 
 drop-at : {X : Type 0} (xs : List X) (i : ℕ) (x : X) → nth xs i ≡ Some x → drop i xs ≡ x ∷ drop (suc i) xs
 drop-at [] i x e = let z : _≡_ {A = ℕ} 0 1 = cc in absurd (omega arith)

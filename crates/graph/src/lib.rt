@@ -87,6 +87,12 @@ pub trait SectionGraph {
 pub fn mix(digest: u64, x: u64) -> u64
     ensures { λ r. ⌜ r ≡ mixed digest x ⌝ }
 {
+    blend(digest, x)
+}
+
+fn blend(digest: u64, x: u64) -> u64
+    ensures { λ r. ⌜ r ≡ mixed digest x ⌝ }
+{
     (digest ^ x).wrapping_mul(1099511628211)
 }
 

@@ -1,22 +1,20 @@
 -- The base of a section is the first leader of its own content.
-use Prim.Native.Nat.{ℕ, suc, _+_, _≤_, _<_}
+use Prim.Native.Nat.{ℕ, _+_, _≤_, _<_}
 use native.Mathlib.Omega.{arith}
 use mathlib.Core.Path.{_≡_, refl, sym, ap, subst, _∙_}
 use mathlib.Core.Logic.{⊎-elim}
-use mathlib.Core.Bool.{Bool, true, false, _&&_, cond}
+use mathlib.Core.Bool.{Bool, true, false}
 use mathlib.Core.List.{List}
 use lib.Dec.{eqb}
 use lib.ListN.{length, getD, set, replicate}
 use Rattle.std.proofs.shelf.Lists.{getD-set-same, getD-set-other, length-set, length-replicate, getD-replicate}
 use Rattle.std.specs.Orderings.{Decides}
-use Rattle.std.proofs.shelf.Tests.{cases-lt, cases-eq, cases-bool, both-ways, cond-true, cond-false, eq-eqb, eqb-true, and-parts, and-from, and-right}
+use Rattle.std.proofs.shelf.Tests.{cases-lt, cases-bool, both-ways, cond-true, cond-false, eq-eqb, eqb-true, and-parts, and-from, and-right}
 use Rattle.std.proofs.shelf.Ways.{decides-and}
-use Rattle.model.specs.Graph.{Graph, section-of, count-of}
-use Rattle.model.specs.Laws.{Valid}
+use Rattle.model.specs.Graph.{Graph, section-of}
 use Rattle.steps.specs.Below.{least-below}
-use Rattle.steps.proofs.Below.{least-is, least-passes, least-least}
+use Rattle.steps.proofs.Below.{least-passes, least-least}
 use Rattle.unfolding.specs.Groups.{foldable, Fold-able}
-use Rattle.unfolding.proofs.Marks.{fold-bound}
 use Rattle.content.specs.Core.{core-of, same-core, digest-core, Core}
 use Rattle.content.proofs.Cores.{core-decides}
 use Rattle.partition.specs.Classes.{Found, cored, base-of, based, Based, Noted, Bases}

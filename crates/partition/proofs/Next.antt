@@ -1,10 +1,10 @@
 -- The classes at depth k + 1 from those at depth k.
-use Prim.Native.Nat.{ℕ, zero, suc, _+_, _≤_, _<_}
+use Prim.Native.Nat.{ℕ, suc, _≤_, _<_}
 use native.Mathlib.Omega.{arith}
 use mathlib.Core.Path.{_≡_, refl, sym, ap, subst, _∙_}
 use mathlib.Core.Logic.{⊎-elim}
-use mathlib.Core.Bool.{Bool, true, false, _&&_, cond}
-use mathlib.Core.List.{List, [], map}
+use mathlib.Core.Bool.{true, false, _&&_}
+use mathlib.Core.List.{List, map}
 use lib.Dec.{eqb, ltb}
 use lib.ListN.{length, getD}
 use Rattle.std.specs.declared.option.Option.{Option}
@@ -12,23 +12,23 @@ use Rattle.std.specs.declared.option.Option.the-variants.{None, Some}
 use Rattle.std.specs.Options.{isSome}
 use Rattle.std.specs.shelf.Lists.{All}
 use Rattle.std.proofs.shelf.Tests.{cases-lt, cases-bool, both-ways, cond-true, lt-ltb, eq-eqb, eqb-true, and-parts, and-from}
-use Rattle.model.specs.Graph.{Body, Graph, Present, section-of, count-of}
+use Rattle.model.specs.Graph.{Body, Graph, Present, section-of}
 use Rattle.model.specs.Laws.{Valid, Lawful-relocation}
 use Rattle.graph.specs.Bytes.{bytes-in}
-use Rattle.unfolding.specs.Depth.{Arm, Shape, unfolding-at, same-list}
+use Rattle.unfolding.specs.Depth.{Arm, unfolding-at, same-list}
 use Rattle.unfolding.specs.Telling.{look, arms-in, arm}
 use Rattle.unfolding.specs.Groups.{foldable, Fold-able}
-use Rattle.unfolding.specs.Sections.{rules, Agree, Face, face-of}
-use Rattle.unfolding.proofs.Shapes.{Shape-rel, Arms-rel, shape-to, shape-from}
+use Rattle.unfolding.specs.Sections.{rules, Agree, face-of}
+use Rattle.unfolding.proofs.Shapes.{Arms-rel, shape-to, shape-from}
 use Rattle.unfolding.proofs.Depths.{narrows}
 use Rattle.unfolding.proofs.Marks.{present-bound, Kinds, both-absent, both-foldable, one-pinned, agree-kinds}
 use Rattle.unfolding.proofs.Classes.{class-itself, class-foldable, class-agrees, class-lowest, class-below, class-same, class-shares, class-class}
 use Rattle.unfolding.proofs.Rules.{lawful-rules}
 use Rattle.unfolding.proofs.Theorems.{marks-tell}
-use Rattle.content.specs.Core.{Core, core-of, bare}
+use Rattle.content.specs.Core.{Core, core-of}
 use Rattle.content.specs.Aims.{relocations-in, class-in, same-aim}
 use Rattle.content.proofs.Arms.{arms-join, arms-split}
-use Rattle.partition.specs.Classes.{Found, Bases, base-of, class-at, Classed, Classes, joined}
+use Rattle.partition.specs.Classes.{Found, Bases, class-at, Classed, Classes, joined}
 use Rattle.partition.proofs.Base.{base-same, base-shares}
 
 arms-are : (o : Option Body) → arms-in o ≡ map arm (relocations-in o)

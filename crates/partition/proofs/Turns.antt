@@ -1,21 +1,21 @@
 -- Round after round, until nothing changes.
-use Prim.Native.Nat.{ℕ, zero, suc, _+_, _≤_, _<_}
+use Prim.Native.Nat.{ℕ, suc, _+_, _≤_, _<_}
 use native.Mathlib.Numerals.{add-one}
 use native.Mathlib.Omega.{arith}
-use mathlib.Core.Path.{_≡_, refl, sym, ap, subst, _∙_}
+use mathlib.Core.Path.{_≡_, refl, sym, subst, _∙_}
 use mathlib.Core.Logic.{⊎-elim}
-use mathlib.Core.Bool.{Bool, true, false, cond}
+use mathlib.Core.Bool.{true, false}
 use mathlib.Core.List.{List}
 use lib.ListN.{length, getD, set, replicate}
-use Rattle.std.proofs.shelf.Tests.{cases-lt, cases-eq, cases-bool, both-ways}
+use Rattle.std.proofs.shelf.Tests.{cases-lt, both-ways}
 use Rattle.std.proofs.shelf.Lists.{getD-set-same, getD-set-other, length-set, length-replicate}
 use Rattle.std.proofs.shelf.Counted.{fill-by-all}
 use Rattle.model.specs.Graph.{Graph, count-of}
 use Rattle.model.specs.Laws.{Valid}
 use Rattle.steps.specs.Below.{table}
 use Rattle.unfolding.specs.Telling.{look}
-use Rattle.unfolding.specs.Groups.{foldable, Fold-able, Stable-by}
-use Rattle.unfolding.specs.Sections.{rules, rep, rounds, Stable, Agree}
+use Rattle.unfolding.specs.Groups.{foldable, Fold-able}
+use Rattle.unfolding.specs.Sections.{rules, rep, rounds, Stable}
 use Rattle.unfolding.proofs.Depths.{narrows}
 use Rattle.unfolding.proofs.Marks.{fold-bound, stays-stable}
 use Rattle.unfolding.proofs.Classes.{class-itself, class-foldable, class-lowest, class-same, class-shares, class-rep, rounds-least, rounds-bounded, rounds-stable}

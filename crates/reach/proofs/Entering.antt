@@ -3,7 +3,7 @@ use Prim.Native.Nat.{ℕ, zero, suc, _+_, _≤_, _<_}
 use native.Mathlib.Numerals.{add-one}
 use native.Mathlib.Omega.{arith}
 use mathlib.Core.Path.{_≡_, refl, sym, ap, subst, _∙_}
-use mathlib.Core.Logic.{_≢_, _⊎_, inl, inr, ⊎-elim}
+use mathlib.Core.Logic.{_⊎_, ⊎-elim}
 use mathlib.Core.Bool.{Bool, true, false, not, _&&_, cond}
 use mathlib.Core.List.{List}
 use lib.Dec.{eqb}
@@ -11,7 +11,7 @@ use lib.ListN.{length, getD, set, replicate}
 use lib.Seq.{getD-set-same, getD-set-other}
 use Rattle.std.specs.declared.option.Option.{Option}
 use Rattle.std.specs.declared.option.Option.the-variants.{None, Some}
-use Rattle.std.proofs.shelf.Tests.{cases-lt, cases-eq, cases-bool, both-ways, cond-true, cond-false, eq-eqb, ne-eqb, and-parts, and-from}
+use Rattle.std.proofs.shelf.Tests.{cases-lt, cases-eq, both-ways, eq-eqb, ne-eqb}
 use Rattle.std.proofs.shelf.Lists.{length-set, length-replicate, getD-replicate, getD-past, ext-getD}
 use Rattle.std.proofs.shelf.Maps.{nth-past}
 use Rattle.model.specs.declared.Target.{Target}
@@ -21,7 +21,7 @@ use Rattle.model.specs.Graph.{Body, Graph, Present, section-of, count-of, root-
 use Rattle.model.specs.Laws.{Valid}
 use Rattle.steps.specs.Below.{count-below, table}
 use Rattle.steps.proofs.Below.{table-at, table-length, table-past}
-use Rattle.steps.proofs.Count.{count-same, count-removed, count-more, count-bounded, count-full}
+use Rattle.steps.proofs.Count.{count-same, count-removed, count-bounded}
 use Rattle.steps.proofs.Nth.{all-at}
 use Rattle.unfolding.specs.Reach.{Reached, root, step, has, marked, marked-next, marks, reached}
 use Rattle.unfolding.proofs.Marks.{present-bound}

@@ -2,7 +2,6 @@ use mathlib.Core.Path.{_≡_}
 use lib.ListN.{drop}
 use Rattle.model.specs.Graph.{section-of}
 use Rattle.unfolding.specs.Depth.{same-list}
-use Rattle.content.specs.Core.{same-bare}
 use Rattle.content.specs.Aims.{relocations-in, same-aim}
 use Rattle.content.proofs.same_aims.Given as given
 

@@ -1,5 +1,5 @@
-use mathlib.Core.Path.{_≡_, sym, ap, _∙_}
-use mathlib.Core.Bool.{Bool, true, false}
+use mathlib.Core.Path.{sym, ap, _∙_}
+use mathlib.Core.Bool.{true}
 use Rattle.std.specs.declared.option.Option.{Option}
 use Rattle.model.specs.declared.Record.{Record}
 use Rattle.model.specs.Graph.{section-of, told-record}

@@ -3,7 +3,7 @@ use lib.ListN.{drop}
 use Rattle.model.specs.Graph.{section-of}
 use Rattle.unfolding.specs.Depth.{same-list}
 use Rattle.content.specs.Core.{same-bare}
-use Rattle.content.specs.Aims.{relocations-in, same-aim}
+use Rattle.content.specs.Aims.{relocations-in}
 use Rattle.content.proofs.same_links.Given as given
 
 abbrev pub Inv-loop-j : given.InvT-loop-j

@@ -1,8 +1,6 @@
-use Prim.Native.Nat.{ℕ, _+_}
-use native.Mathlib.Omega.{arith}
-use mathlib.Core.Path.{_≡_, refl, sym, subst, _∙_}
-use mathlib.Core.List.{List}
-use Rattle.partition.proofs.Base.{Filled, filled-start, filled-set, filled-pass, filled-end, filled-same, base-found}
+use Prim.Native.Nat.{_+_}
+use mathlib.Core.Path.{refl, sym, _∙_}
+use Rattle.partition.proofs.Base.{filled-start, filled-set, filled-pass, filled-end, filled-same, base-found}
 use Rattle.partition.proofs.bases.Needs as need
 use Rattle.partition.proofs.bases.Needs.{then-may-fold, else-may-fold}
 

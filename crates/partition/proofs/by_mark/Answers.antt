@@ -1,5 +1,3 @@
-use Prim.Native.Nat.{ℕ, _+_}
-use native.Mathlib.Omega.{arith}
 use mathlib.Core.Path.{sym, _∙_}
 use Rattle.partition.proofs.Turns.{filling-start, filling-set, filling-end, first-class, other-class}
 use Rattle.partition.proofs.by_mark.Needs as need

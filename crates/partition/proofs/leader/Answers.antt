@@ -13,7 +13,7 @@ returns-then-joins g c =
     (c .args .s)
     (c .loop-t .t)
     (c .loop-t .inv)
-    (c .loop-t .kept .t)
+    (omega arith)
     (c .loop-t-test .taken)
     (sym (c .joins .ensures) ∙ c .if-joins .taken)
 

@@ -1,5 +1,5 @@
-use mathlib.Core.Path.{sym, subst, _∙_}
-use Rattle.reach.specs.Work.{Sound, fresh}
+use mathlib.Core.Path.{sym, subst}
+use Rattle.reach.specs.Work.{Sound}
 use Rattle.reach.proofs.Entering.{fresh-sound, closed-reached}
 use Rattle.reach.proofs.marks.Needs as need
 

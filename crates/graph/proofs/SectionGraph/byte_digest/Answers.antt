@@ -1,6 +1,6 @@
 use Prim.Native.Nat.{ℕ, _+_, _≤_}
 use native.Mathlib.Omega.{arith}
-use mathlib.Core.Path.{_≡_, refl, sym, ap, _∙_}
+use mathlib.Core.Path.{sym, ap, _∙_}
 use lib.ListN.{drop}
 use Rattle.model.specs.Graph.{section-of, told-record}
 use Rattle.graph.specs.Bytes.{bytes-in, told-size, digest-from}

@@ -1,5 +1,5 @@
 use native.Mathlib.Omega.{arith}
-use mathlib.Core.Path.{refl, sym, ap, _∙_}
+use mathlib.Core.Path.{sym, ap, _∙_}
 use Rattle.reach.specs.Work.{aims, aim-of, told-count}
 use Rattle.reach.proofs.Entering.{enter-step, pass-step, grown-on, taken-all, aims-past, aim-reached, reached-small}
 use Rattle.reach.proofs.work.Work.follow.Needs as need

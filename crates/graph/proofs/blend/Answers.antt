@@ -1,6 +1,6 @@
 use mathlib.Core.Path.{refl}
 use Rattle.graph.specs.Bytes.{mixed}
-use Rattle.graph.proofs.mix.Needs as need
+use Rattle.graph.proofs.blend.Needs as need
 
 pub returns : need.returns
 unfolding mixed
