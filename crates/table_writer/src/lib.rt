@@ -79,7 +79,7 @@ fn present<G: SectionGraph>(graph: &G) -> u16
     count
 }
 
-// The bytes of section `s` from `start` to `stop`, at most sixteen, in front of zeros.
+// The bytes of section `s` from `start` to `stop`, at most sixteen, at the front of a row.
 fn gather<G: SectionGraph>(graph: &G, s: u16, start: u16, stop: u16) -> [u8; 16]
     requires sound { ⌜ G·SectionGraph .sound (now graph) ⌝ }
     requires few { ⌜ stop ≤ start + 16 ⌝ }
