@@ -27,8 +27,8 @@ use Rattle.unfolding.specs.Depth.{Shape, unfolding-at, shape-map}
 use Rattle.unfolding.specs.Telling.{Telling, Lawful, seen, look, Agree-by, Alike-by}
 use Rattle.unfolding.specs.Groups.{foldable, Fold-able, present, present-count, rep-by, Apart-by, aimed, moved, folded-section, folded-by, merged-by}
 use Rattle.unfolding.proofs.Shapes.{shape-after, shape-same}
-use Rattle.unfolding.proofs.Marks.{Kinds, both-absent, both-foldable, one-pinned, fold-present, agree-kinds}
-use Rattle.unfolding.proofs.Classes.{rep-alike, rep-same, rep-rep, rep-foldable, rep-itself, rep-shares}
+use Rattle.unfolding.proofs.Marks.{Kinds, both-absent, both-foldable, one-pinned, fold-present, kinds-present, agree-kinds}
+use Rattle.unfolding.proofs.Classes.{rep-alike, rep-same, rep-rep, rep-foldable, rep-itself, rep-lowest}
 use Rattle.folding.proofs.Rebuilt.{rebuilt-at, rebuilt-length, rebuilt-same}
 use Rattle.folding.proofs.Aimed.{moved-seen, aimed-same, lawful-aimed}
 
@@ -88,12 +88,8 @@ module _ {M F : Type 0} (T : Telling M F) (L : Lawful T) (g : Graph) where
           p)
 
   pub rep-present : (s : ℕ) → Present g s → Present g (rep-by T g s)
-  rep-present s p = go (agree-kinds T L 0 g (rep-by T g s) g s (rep-alike T L g s 0))
-    where
-      go : Kinds g (rep-by T g s) g s → Present g (rep-by T g s)
-      go (both-absent a b) = absurd (both-ways (isSome (section-of g s)) (rw b) p)
-      go (both-foldable a b) = fold-present g (rep-by T g s) a
-      go (one-pinned same a b c d) = a
+  rep-present s p =
+      kinds-present g s g (rep-by T g s) (agree-kinds T L 0 g s g (rep-by T g s) (sym (rep-alike T L g s 0))) p
 
   pub present-folded : (s : ℕ) → Present g s → Present (folded-by T g) (rep-by T g s)
   present-folded s p = rw (folded-stays (rep-by T g s) (rep-rep T L g s)) (some (section-of g (rep-by T g s)) (rep-present s p))
@@ -139,6 +135,10 @@ module _ {M F : Type 0} (T : Telling M F) (L : Lawful T) (g : Graph) where
       let b = folded-present t q in
       sym (a .0) ∙
       (rep-joins s t (a .1) (λ k. sym (folded-own s (a .0) k) ∙ (e k ∙ folded-own t (b .0) k)) ∙ b .0)
+
+  -- what stays of a group is its lowest number
+  pub folded-lowest : (s t : ℕ) → Present (folded-by T g) s → Fold-able g s → Fold-able g t → Alike-by T g t g s → s ≤ t
+  folded-lowest s t p h f e = subst (λ (x : ℕ). x ≤ t) (folded-present s p .0) (rep-lowest T L g s t h f e)
 
   pub folded-roots : (j s : ℕ) → root-of g j ≡ Some s → root-of (folded-by T g) j ≡ Some (rep-by T g s)
   folded-roots j s e = nth-map-some (rep-by T g) (g .roots) j s e

@@ -18,6 +18,7 @@ fold-folds g =
       count = fold.folded-count rules lawful-rules g;
       stays = λ s p e. subst (Present (folded g)) e (fold.present-folded rules lawful-rules g s p);
       goes = fold.folded-present rules lawful-rules g;
+      lowest = fold.folded-lowest rules lawful-rules g;
       unfolds = fold.folded-alike rules lawful-rules g;
       root-count = fold.folded-root-count rules lawful-rules g;
       roots = fold.folded-roots rules lawful-rules g;

@@ -1,11 +1,11 @@
 -- What is proved of the folded and the swept graph.
-use Prim.Native.Nat.{ℕ, _+_, _<_}
+use Prim.Native.Nat.{ℕ, _+_, _≤_, _<_}
 use mathlib.Core.Path.{_≡_}
 use Rattle.std.specs.declared.option.Option.the-variants.{Some}
 use Rattle.std.specs.Orderings.{Decides}
 use Rattle.model.specs.Graph.{Graph, Present, section-of, count-of, root-of, root-count-of}
 use Rattle.model.specs.Laws.{Valid}
-use Rattle.unfolding.specs.Groups.{present-count}
+use Rattle.unfolding.specs.Groups.{Fold-able, present-count}
 use Rattle.unfolding.specs.Reach.{Reached, reached, swept, dropped}
 use Rattle.unfolding.specs.Sections.{Alike, rep, folded, merged, Apart, All-reached}
 
@@ -15,6 +15,8 @@ pub record Folds (g : Graph) : Type 0 where
   -- present are exactly the present sections that are their own representatives
   pub stays : (s : ℕ) → Present g s → rep g s ≡ s → Present (folded g) s
   pub goes : (s : ℕ) → Present (folded g) s → (rep g s ≡ s) × Present g s
+  -- what stays of a group is its lowest number
+  pub lowest : (s t : ℕ) → Present (folded g) s → Fold-able g s → Fold-able g t → Alike g t g s → s ≤ t
   -- the representative unfolds at every depth as the section did
   pub unfolds : (s : ℕ) → Alike (folded g) (rep g s) g s
   -- each root is now the representative

@@ -4,27 +4,20 @@ use mathlib.Core.Path.{_≡_, refl, sym, ap, subst, _∙_}
 use mathlib.Core.Bool.{true}
 use Rattle.std.specs.declared.option.Option.{Option}
 use Rattle.std.specs.declared.option.Option.the-variants.{None, Some}
-use Rattle.std.specs.Options.{isSome}
-use Rattle.std.proofs.shelf.Tests.{both-ways}
-use Rattle.model.specs.Graph.{Graph, Present, section-of, count-of, root-of, root-count-of}
+use Rattle.model.specs.Graph.{Graph, Present, count-of, root-of, root-count-of}
 use Rattle.steps.proofs.Count.{count-injection}
 use Rattle.steps.proofs.Nth.{nth-there}
 use Rattle.unfolding.specs.Telling.{Telling, Lawful, Alike-by}
 use Rattle.unfolding.specs.Groups.{present, present-count, Apart-by}
 use Rattle.unfolding.specs.Reach.{Reached, root, step}
 use Rattle.unfolding.specs.Sections.{All-reached}
-use Rattle.unfolding.proofs.Marks.{Kinds, both-absent, both-foldable, one-pinned, fold-present, present-bound, agree-kinds}
+use Rattle.unfolding.proofs.Marks.{kinds-present, present-bound, agree-kinds}
 use Rattle.folding.proofs.Follow.{Followed, follow}
 
 -- alike sections are present together
 pub alike-present :
     {M F : Type 0} (T : Telling M F) (L : Lawful T) (g : Graph) (s : ℕ) (h : Graph) (t : ℕ) → Alike-by T g s h t → Present g s → Present h t
-alike-present T L g s h t e p = go (agree-kinds T L 0 g s h t (e 0))
-  where
-    go : Kinds g s h t → Present h t
-    go (both-absent a b) = absurd (both-ways (isSome (section-of g s)) (rw a) p)
-    go (both-foldable a b) = fold-present h t b
-    go (one-pinned same a b c d) = b
+alike-present T L g s h t e p = kinds-present g s h t (agree-kinds T L 0 g s h t (e 0)) p
 
 module _
     {M F : Type 0}

@@ -5,4 +5,5 @@ pub mod Marks
 pub mod Classes
 pub mod Rules
 pub mod Theorems
+pub mod Matching
 pub mod Examples

@@ -73,6 +73,12 @@ kinds-of g s h t m = go (section-of g s) (section-of h t) refl refl m
     go (Some x) None e f m = absurd m
     go (Some x) (Some y) e f m = at x y e f (x .setting) (y .setting) refl refl m
 
+-- they are present together
+pub kinds-present : (g : Graph) (s : ℕ) (h : Graph) (t : ℕ) → Kinds g s h t → Present g s → Present h t
+kinds-present g s h t (both-absent a b) p = absurd (both-ways (isSome (section-of g s)) (rw a) p)
+kinds-present g s h t (both-foldable a b) p = fold-present h t b
+kinds-present g s h t (one-pinned same a b c d) p = b
+
 module _ {M F : Type 0} (T : Telling M F) (L : Lawful T) where
   pub agree-kinds : (k : ℕ) (g : Graph) (s : ℕ) (h : Graph) (t : ℕ) → Agree-by T k g s h t → Kinds g s h t
   agree-kinds k g s h t e =

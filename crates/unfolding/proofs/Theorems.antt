@@ -12,11 +12,14 @@ use Rattle.model.specs.Graph.{Body, Graph, section-of, Present}
 use Rattle.unfolding.specs.Telling.{setting-in, setting-of, look}
 use Rattle.unfolding.specs.Groups.{may-fold, foldable, Fold-able}
 use Rattle.unfolding.specs.Sections.{Mark, mark-of, Agree, rules}
-use Rattle.unfolding.specs.Theorems.{Marks-tell, Narrows, Groups-last, Groups-settle, Depth-decides, Rounds-least, Represents, Rounds-are-least, Lowest-represents}
+use Rattle.unfolding.specs.Theorems.{Presence-decided, Marks-tell, Narrows, Groups-last, Groups-settle, Depth-decides, Rounds-least, Represents, Rounds-are-least, Lowest-represents}
 use Rattle.unfolding.proofs.Depths.{narrows, steady-alike}
-use Rattle.unfolding.proofs.Marks.{fold-present, Kinds, both-absent, both-foldable, one-pinned, agree-kinds, stays-stable, decided}
-use Rattle.unfolding.proofs.Classes.{some-stable, rounds-least, rounds-bounded, rounds-stable, rep-alike, rep-foldable, rep-lowest, rep-itself}
+use Rattle.unfolding.proofs.Marks.{Kinds, both-absent, both-foldable, one-pinned, kinds-present, agree-kinds, stays-stable, decided}
+use Rattle.unfolding.proofs.Classes.{some-stable, rounds-least, rounds-bounded, rounds-stable, rep-alike, rep-foldable, rep-lowest, rep-itself, rep-same, rep-shares}
 use Rattle.unfolding.proofs.Rules.{lawful-rules}
+
+pub presence-decided : Presence-decided
+presence-decided g s = (λ e. e, λ e. e)
 
 pub depths-narrow : Narrows
 depths-narrow k g s h t e = narrows (look rules g) (look rules h) k s t e
@@ -46,6 +49,8 @@ lowest-represents g =
       member = rep-foldable rules lawful-rules g;
       lowest = rep-lowest rules lawful-rules g;
       itself = rep-itself rules lawful-rules g;
+      joins = rep-same rules lawful-rules g;
+      parts = rep-shares rules lawful-rules g;
     }
 
 -- the marks
@@ -64,7 +69,7 @@ marks-tell =
     record {
       pins = λ g s h t p f e. pins g s h t p f (agree-kinds rules lawful-rules 0 g s h t e);
       settings = λ g s h t e. settings g s h t (agree-kinds rules lawful-rules 0 g s h t e);
-      presence = λ g s h t e p. presence g s h t p (agree-kinds rules lawful-rules 0 g s h t e);
+      presence = λ g s h t e. kinds-present g s h t (agree-kinds rules lawful-rules 0 g s h t e);
       joins = λ g s h t p q. fold-mark (setting-of g s) s p ∙ sym (fold-mark (setting-of h t) t q);
     }
   where
@@ -77,8 +82,3 @@ marks-tell =
     settings g s h t (both-absent a b) = absent-foldable g s a ∙ sym (absent-foldable h t b)
     settings g s h t (both-foldable a b) = a ∙ sym b
     settings g s h t (one-pinned same a b c d) = c ∙ sym d
-
-    presence : (g : Graph) (s : ℕ) (h : Graph) (t : ℕ) → Present g s → Kinds g s h t → Present h t
-    presence g s h t p (both-absent a b) = absurd (both-ways (isSome (section-of g s)) (rw a) p)
-    presence g s h t p (both-foldable a b) = fold-present h t b
-    presence g s h t p (one-pinned same a b c d) = b

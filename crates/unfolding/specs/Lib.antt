@@ -4,4 +4,5 @@ pub mod Groups
 pub mod Reach
 pub mod Sections
 pub mod Theorems
+pub mod Matching
 pub mod Examples

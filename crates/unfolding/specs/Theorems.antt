@@ -2,9 +2,14 @@
 use Prim.Native.Nat.{ℕ, suc, _≤_}
 use mathlib.Core.Path.{_≡_}
 use mathlib.Core.Bool.{false}
+use Rattle.std.specs.Orderings.{Decides}
 use Rattle.model.specs.Graph.{Graph, Present, count-of}
-use Rattle.unfolding.specs.Groups.{foldable, Fold-able}
+use Rattle.unfolding.specs.Groups.{present, foldable, Fold-able}
 use Rattle.unfolding.specs.Sections.{Agree, Alike, Stable, rounds, rep}
+
+-- what is counted as present is what the model calls so
+abbrev pub Presence-decided : Type 0
+Presence-decided = (g : Graph) (s : ℕ) → Decides (present g s) (Present g s)
 
 -- depth 0 tells a pinned section from every other, and no two foldable ones apart
 pub record Marks-tell : Type 0 where
@@ -46,6 +51,9 @@ pub record Represents (g : Graph) : Type 0 where
   pub member : (s : ℕ) → Fold-able g s → Fold-able g (rep g s)
   pub lowest : (s t : ℕ) → Fold-able g s → Fold-able g t → Alike g t g s → rep g s ≤ t
   pub itself : (s : ℕ) → foldable g s ≡ false → rep g s ≡ s
+  -- two foldable sections share it exactly when they are alike
+  pub joins : (s t : ℕ) → Fold-able g s → Fold-able g t → Alike g s g t → rep g s ≡ rep g t
+  pub parts : (s t : ℕ) → rep g s ≡ rep g t → Alike g s g t
 
 abbrev pub Rounds-are-least : Type 0
 Rounds-are-least = (g : Graph) → Rounds-least g

@@ -1,7 +1,15 @@
 // What a section unfolds to, which sections are alike, and the folded and the swept graph: definitions (specs/) and theorems on the
 // depths. A function here has a theorem for its contract, and nothing to do.
-ghost use Rattle.unfolding.specs.Theorems.{Marks-tell, Narrows, Groups-last, Groups-settle, Depth-decides, Rounds-are-least, Lowest-represents};
+ghost use Rattle.unfolding.specs.Theorems.{Presence-decided, Marks-tell, Narrows, Groups-last, Groups-settle, Depth-decides, Rounds-are-least, Lowest-represents};
+ghost use Rattle.unfolding.specs.Matching.{Alike-matches, Matching-alike};
 ghost use Rattle.unfolding.specs.Examples.{Examples-hold};
+
+// The sections that are counted are the present ones.
+pub fn presence_decided() -> u8
+    ensures { λ _. ⌜ Presence-decided ⌝ }
+{
+    0
+}
 
 // Depth 0 tells a pinned section from every other, and no two foldable ones apart.
 pub fn marks_tell() -> u8
@@ -48,6 +56,20 @@ pub fn rounds_are_least() -> u8
 // The representative is the lowest of its group.
 pub fn lowest_represents() -> u8
     ensures { λ _. ⌜ Lowest-represents ⌝ }
+{
+    0
+}
+
+// Alike sections give the same answers to the questions, and point at alike sections.
+pub fn alike_matches() -> u8
+    ensures { λ _. ⌜ Alike-matches ⌝ }
+{
+    0
+}
+
+// Sections that a pairing matches, with all that they lead to, are alike.
+pub fn matching_alike() -> u8
+    ensures { λ _. ⌜ Matching-alike ⌝ }
 {
     0
 }
