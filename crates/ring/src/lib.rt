@@ -9,6 +9,8 @@ use model::Relocation;
 use model::Setting;
 use model::Target;
 
+pub mod fork;
+
 #[derive(Drop)]
 pub struct Ring;
 
@@ -75,5 +77,57 @@ pub impl SectionGraph for Ring as RingGraph {
 
     fn root(&self, j: u16) -> Option<u16> {
         if j == 0 { Some(2) } else { None }
+    }
+}
+
+#[cfg(test)]
+mod tests {
+    use super::Ring;
+    use super::RingGraph;
+    use crate::fork::Fork;
+    use crate::fork::ForkGraph;
+    use partition::partition;
+    use reach::reach;
+    use std::test::*;
+
+    #[test]
+    fn ring_folds_into_one() -> Result<(), Fail> {
+        let mut class = [9; 1024];
+        check_eq(partition(&Ring, &mut class), 0)?;
+        check_eq(class[0], 0)?;
+        check_eq(class[1], 0)?;
+        check_eq(class[2], 0)?;
+        check_eq(class[3], 3)
+    }
+
+    #[test]
+    fn ring_is_reached_from_its_root() -> Result<(), Fail> {
+        let marks = reach(&Ring);
+        check_eq(marks[0], false)?;
+        check_eq(marks[1], false)?;
+        check_eq(marks[2], true)?;
+        check_eq(marks[3], false)
+    }
+
+    #[test]
+    fn fork_stays_apart_after_two_rounds() -> Result<(), Fail> {
+        let mut class = [9; 1024];
+        check_eq(partition(&Fork, &mut class), 2)?;
+        check_eq(class[0], 0)?;
+        check_eq(class[1], 1)?;
+        check_eq(class[2], 2)?;
+        check_eq(class[3], 3)?;
+        check_eq(class[4], 4)?;
+        check_eq(class[5], 5)
+    }
+
+    #[test]
+    fn fork_is_reached_from_its_root() -> Result<(), Fail> {
+        let marks = reach(&Fork);
+        check_eq(marks[0], true)?;
+        check_eq(marks[1], true)?;
+        check_eq(marks[2], false)?;
+        check_eq(marks[3], false)?;
+        check_eq(marks[5], false)
     }
 }
