@@ -38,9 +38,8 @@ pub fn refuse(rt: &LibcRuntime, fault: Fault) -> Result<(), AnyError> {
     let number = fault.kind.number();
     let place = fault.place;
     let layer = fault.layer.number();
-    eprintln!(
-        rt,
-        "refused: {why} (refusal {number} at byte {place}, layer {layer})"
-    )?;
-    Err("nothing was written".into())
+    Err(format!(
+        rt.alloc(),
+        "refused with {number} at byte {place}, layer {layer}: {why}"
+    )?.into())
 }
