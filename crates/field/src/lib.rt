@@ -80,7 +80,16 @@ fn long_of(b: &[u8], p: u64) -> u64
     ensures { λ r. ⌜ r ≡ long-at (now (b .entry)) p ⌝ }
 {
     let i = p as usize;
-    u64::from_le_bytes([b[i], b[i + 1], b[i + 2], b[i + 3], b[i + 4], b[i + 5], b[i + 6], b[i + 7]])
+    u64::from_le_bytes([
+        b[i],
+        b[i + 1],
+        b[i + 2],
+        b[i + 3],
+        b[i + 4],
+        b[i + 5],
+        b[i + 6],
+        b[i + 7],
+    ])
 }
 
 // The 64 bits at `p`.
