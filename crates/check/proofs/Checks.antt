@@ -112,3 +112,10 @@ hold-each f (suc n) i h e = go (cases-eq i n) (λ l. hold-each f n i l (hold-lef
     go : (i ≡ n) ⊎ (i ≡ n → ⊥) → (i < n → all-hold (f i) ≡ true) → all-hold (f i) ≡ true
     go (inl q) ih = rw q (hold-right (each f n) (f n) e)
     go (inr q) ih = ih (omega arith)
+
+-- the answer of a reader, from its verdict
+pub answer-some : {A : Type 0} (o : Option Fault) (f : Fault) (x : A) → o ≡ Some f → Err f ≡ answer o x
+answer-some o f x e = rw e
+
+pub answer-none : {A : Type 0} (o : Option Fault) (x : A) → o ≡ None → Ok x ≡ answer o x
+answer-none o x e = rw e

@@ -78,7 +78,7 @@ low k w v x p xs e f h l d b = rw (and-left (leb 4 k) (leb 16 x) (lt-leb 4 k h))
         (refl, omega arith, rw (whole, f) (omega arith), rw (le-ltb x 128 ge, whole) (regroup k w v x p (decoded xs) e f))
 
 -- a number takes a byte at least
-some-taken : (xs : List ℕ) (n : Number) → decoded xs ≡ Some n → 1 ≤ n .taken
+pub some-taken : (xs : List ℕ) (n : Number) → decoded xs ≡ Some n → 1 ≤ n .taken
 some-taken [] n e = let z : _≡_ {A = ℕ} 0 1 = cc in absurd (omega arith)
 some-taken (x ∷ xs) n e = go (ltb x 128) refl (decoded xs) e
   where
