@@ -46,11 +46,11 @@ headed b e =
     in let a4 = and-parts (leb 1 (sections b) && leb (sections b) 1024) _ (a3 .1)
     in let a5 = and-parts (leb (place b (sections b)) (length b)) true (a4 .1)
     in record {
-         first-right = refl;
-         count-right = refl;
-         ends = leb-true (place b (sections b)) (length b) (a5 .0);
-         few = leb-true (sections b) 1024 (and-parts (leb 1 (sections b)) (leb (sections b) 1024) (a4 .0) .1);
-       }
+      first-right = refl;
+      count-right = refl;
+      ends = leb-true (place b (sections b)) (length b) (a5 .0);
+      few = leb-true (sections b) 1024 (and-parts (leb 1 (sections b)) (leb (sections b) 1024) (a4 .0) .1);
+    }
 
 -- the symbols of an object stand in it
 pub tabled : (b : List ℕ) (first n : ℕ) → Headed b first n → first-fault (each (pass-rule Extents b) n) ≡ None → Tabled b (symbols b)
@@ -67,9 +67,11 @@ tabled b first n known f = record { symbols-right = refl; ends = go (table b) re
 pub unlisted : (b : List ℕ) → None ≡ significance b → (first-fault (listing-rule b) ≡ None) × (replicate 1024 false ≡ marks b)
 unlisted b e =
     let none : listing b ≡ [] = ap (listing-of b) (sym e)
-    in (ap (λ (its : List Item). first-fault (item-checks (symbols b .count) its)) none,
-        fill-by-all (listed-in b []) (replicate 1024 false) 1024 false (length-replicate {A = Bool} 1024 false) (λ k h. getD-replicate {A = Bool} 1024 k false false h)
-        ∙ ap (λ (its : List Item). map (listed-in b its) (counting 0 1024)) (sym none))
+    in (
+      ap (λ (its : List Item). first-fault (item-checks (symbols b .count) its)) none,
+      fill-by-all (listed-in b []) (replicate 1024 false) 1024 false (length-replicate {A = Bool} 1024 false) (λ k h. getD-replicate {A = Bool} 1024 k false false h)
+          ∙ ap (λ (its : List Item). map (listed-in b its) (counting 0 1024)) (sym none),
+    )
 
 -- what is read of an address-significance table
 abbrev pub listing-read : List ℕ → ℕ → ℕ → Result (List Bool) Fault

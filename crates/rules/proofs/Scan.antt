@@ -46,9 +46,9 @@ pub record Scanned (b : List ℕ) (base : ℕ) (bytes : List ℕ) (i : ℕ) (n :
   pub small : n .value < 128 ^ n .taken
   pub size : length marks ≡ 1024
   pub clear : first-fault (item-checks (symbols b .count) (rest (n .taken) (n .value) from (base + i) (drop i bytes)))
-    ≡ first-fault (item-checks (symbols b .count) (all base bytes))
+      ≡ first-fault (item-checks (symbols b .count) (all base bytes))
   pub noted : (s : ℕ) → s < 1024
-    → (getD marks s false || lists b s (rest (n .taken) (n .value) from (base + i) (drop i bytes))) ≡ lists b s (all base bytes)
+      → (getD marks s false || lists b s (rest (n .taken) (n .value) from (base + i) (drop i bytes))) ≡ lists b s (all base bytes)
 
 -- no byte read
 zero-prefix : (o : Option Number) → prefixed 0 0 o ≡ o
@@ -96,18 +96,18 @@ begun-is (suc k) here from = rw (ne-eqb (suc k) 0 (λ e. omega arith))
 
 -- what is left, with the number at hand in front
 unrolled : (k v from p x : ℕ) (xs : List ℕ) → (k ≡ 0 → v ≡ 0)
-  → rest k v from p (x ∷ xs)
+    → rest k v from p (x ∷ xs)
     ≡ (record { place = began k p from; number = pending k v (began k p from) (x ∷ xs) }
-       ∷ items (left-of (pending k v (began k p from) (x ∷ xs)) (suc k)) (suc p) xs)
+    ∷ items (left-of (pending k v (began k p from) (x ∷ xs)) (suc k)) (suc p) xs)
 unrolled zero v from p x xs z =
     let e : pending 0 v p (x ∷ xs) ≡ number-at (x ∷ xs) p
-          = ap (λ (y : ℕ). pending 0 y p (x ∷ xs)) (z refl) ∙ ap (λ (o : Option Number). limited o p) (zero-prefix (decoded (x ∷ xs)))
+    = ap (λ (y : ℕ). pending 0 y p (x ∷ xs)) (z refl) ∙ ap (λ (o : Option Number). limited o p) (zero-prefix (decoded (x ∷ xs)))
     in let f : Result Number Fault → List Item = λ r. record { place = p; number = r } ∷ items (left-of r 1) (suc p) xs
     in sym (ap f e)
 unrolled (suc k) v from p x xs z = go (pending (suc k) v from (x ∷ xs)) refl
   where
     go : (r : Result Number Fault) → pending (suc k) v from (x ∷ xs) ≡ r
-      → _≡_ {A = List Item} (record { place = from; number = r } ∷ items (left-of r (suc k)) p (x ∷ xs))
+        → _≡_ {A = List Item} (record { place = from; number = r } ∷ items (left-of r (suc k)) p (x ∷ xs))
         (record { place = from; number = r } ∷ items (left-of r (suc (suc k))) (suc p) xs)
     go (Err f) e = ap (λ (its : List Item). record { place = from; number = Err f } ∷ its) (sym (no-items (suc p) xs))
     go (Ok m) e =
@@ -123,24 +123,25 @@ Turn count from p its xs (Ok (More m)) =
     (m .taken ≤ 4) × (m .value < 128 ^ m .taken) × (its ≡ rest (m .taken) (m .value) from (suc p) xs)
 
 turned : (count : ℕ) (n : Number) (from p x : ℕ) (xs : List ℕ) (r : Result Gathered Fault) → n .taken ≤ 4 → n .value < 128 ^ n .taken → x < 256
-  → r ≡ gathered n x (began (n .taken) p from)
-  → Turn count (began (n .taken) p from) p (rest (n .taken) (n .value) from p (x ∷ xs)) xs r
+    → r ≡ gathered n x (began (n .taken) p from)
+    → Turn count (began (n .taken) p from) p (rest (n .taken) (n .value) from p (x ∷ xs)) xs r
 turned count n from p x xs r h l b e =
     go r (unrolled (n .taken) (n .value) from p x xs zeroed)
-       (stepped n x (began (n .taken) p from) xs r h l b e)
+    (stepped n x (began (n .taken) p from) xs r h l b e)
   where
     zeroed : n .taken ≡ 0 → n .value ≡ 0
     zeroed q = let m : n .value < 1 = rw q at l in omega arith
+
     go : (r : Result Gathered Fault)
-      → rest (n .taken) (n .value) from p (x ∷ xs)
+        → rest (n .taken) (n .value) from p (x ∷ xs)
         ≡ (record { place = began (n .taken) p from; number = pending (n .taken) (n .value) (began (n .taken) p from) (x ∷ xs) }
-           ∷ items (left-of (pending (n .taken) (n .value) (began (n .taken) p from) (x ∷ xs)) (suc (n .taken))) (suc p) xs)
-      → Steps (n .taken) (n .value) x (began (n .taken) p from) xs r
-      → Turn count (began (n .taken) p from) p (rest (n .taken) (n .value) from p (x ∷ xs)) xs r
+        ∷ items (left-of (pending (n .taken) (n .value) (began (n .taken) p from) (x ∷ xs)) (suc (n .taken))) (suc p) xs)
+        → Steps (n .taken) (n .value) x (began (n .taken) p from) xs r
+        → Turn count (began (n .taken) p from) p (rest (n .taken) (n .value) from p (x ∷ xs)) xs r
     go (Err f) u s =
         let g : Result Number Fault → List Item = λ y. record { place = began (n .taken) p from; number = y } ∷ items (left-of y (suc (n .taken))) (suc p) xs
         in ap (λ (i : List Item). first-fault (item-checks count i)) (u ∙ ap g s)
-           ∙ ap Some (refused-is (prefixed (n .taken) (n .value) (decoded (x ∷ xs))) (began (n .taken) p from) f s)
+        ∙ ap Some (refused-is (prefixed (n .taken) (n .value) (decoded (x ∷ xs))) (began (n .taken) p from) f s)
     go (Ok (Whole m)) u s =
         let g : Result Number Fault → List Item = λ y. record { place = began (n .taken) p from; number = y } ∷ items (left-of y (suc (n .taken))) (suc p) xs
         in let d : m .taken - suc (n .taken) ≡ 0 = omega (arith, s .1)
@@ -167,7 +168,7 @@ marked-is : (y : Symbol) (xs : List Bool) (s : ℕ) → s < 1024 → length xs �
 marked-is y xs s h len = go (outside (y .section)) (cases-lt (y .section) 1024) (cases-eq (y .section) s)
   where
     go : (o : Bool) → (y .section < 1024) ⊎ (1024 ≤ y .section) → (y .section ≡ s) ⊎ (y .section ≡ s → ⊥)
-      → getD (cond (not o && ltb (y .section) 1024) (set xs (y .section) true) xs) s false ≡ (getD xs s false || (not o && eqb (y .section) s))
+        → getD (cond (not o && ltb (y .section) 1024) (set xs (y .section) true) xs) s false ≡ (getD xs s false || (not o && eqb (y .section) s))
     go true l q = sym (or-none (getD xs s false))
     go false (inl l) (inl q) =
         let lt = lt-ltb (y .section) 1024 l
@@ -196,18 +197,18 @@ pub begin : (b : List ℕ) (base : ℕ) (bytes : List ℕ) → Scanned b base by
 begin b base bytes =
     let z : base + 0 ≡ base = omega arith
     in record {
-         few = omega arith;
-         small = omega arith;
-         size = length-replicate {A = Bool} 1024 false;
-         clear = rw z refl;
-         noted = λ s h. rw (z, getD-replicate {A = Bool} 1024 s false false h) refl;
-       }
+      few = omega arith;
+      small = omega arith;
+      size = length-replicate {A = Bool} 1024 false;
+      clear = rw z refl;
+      noted = λ s h. rw (z, getD-replicate {A = Bool} 1024 s false false h) refl;
+    }
 
 module _ (b : List ℕ) (base : ℕ) (bytes : List ℕ) (i : ℕ) (n : Number) (from : ℕ) (marks : List Bool) where
   -- the byte at hand in front of those that are left
   turn-at : (r : Result Gathered Fault) → Scanned b base bytes i n from marks → i < length bytes → getD bytes i 0 < 256
-    → r ≡ gathered n (getD bytes i 0) (began (n .taken) (base + i) from)
-    → Turn (symbols b .count) (began (n .taken) (base + i) from) (base + i) (rest (n .taken) (n .value) from (base + i) (drop i bytes)) (drop (i + 1) bytes) r
+      → r ≡ gathered n (getD bytes i 0) (began (n .taken) (base + i) from)
+      → Turn (symbols b .count) (began (n .taken) (base + i) from) (base + i) (rest (n .taken) (n .value) from (base + i) (drop i bytes)) (drop (i + 1) bytes) r
   turn-at r w lt x e =
       rw (drop-more bytes i 0 lt)
       (turned (symbols b .count) n from (base + i) (getD bytes i 0) (drop (i + 1) bytes) r (w .few) (w .small) x e)
@@ -217,28 +218,28 @@ module _ (b : List ℕ) (base : ℕ) (bytes : List ℕ) (i : ℕ) (n : Number) (
 
   -- the number does not form
   pub bad-number : (f : Fault) → Scanned b base bytes i n from marks → i < length bytes → getD bytes i 0 < 256
-    → Err f ≡ gathered n (getD bytes i 0) (began (n .taken) (base + i) from) → first-fault (item-checks (symbols b .count) (all base bytes)) ≡ Some f
+      → Err f ≡ gathered n (getD bytes i 0) (began (n .taken) (base + i) from) → first-fault (item-checks (symbols b .count) (all base bytes)) ≡ Some f
   bad-number f w lt x e = sym (w .clear) ∙ turn-at (Err f) w lt x e
 
   -- the number goes on
   pub goes-on : (m : Number) → Scanned b base bytes i n from marks → i < length bytes → getD bytes i 0 < 256
-    → Ok (More m) ≡ gathered n (getD bytes i 0) (began (n .taken) (base + i) from)
-    → Scanned b base bytes (i + 1) m (began (n .taken) (base + i) from) marks
+      → Ok (More m) ≡ gathered n (getD bytes i 0) (began (n .taken) (base + i) from)
+      → Scanned b base bytes (i + 1) m (began (n .taken) (base + i) from) marks
   goes-on m w lt x e =
       let t = turn-at (Ok (More m)) w lt x e
       in let same : rest (n .taken) (n .value) from (base + i) (drop i bytes) ≡ rest (m .taken) (m .value) (began (n .taken) (base + i) from) (base + (i + 1)) (drop (i + 1) bytes)
-               = t .2 ∙ ap (λ (p : ℕ). rest (m .taken) (m .value) (began (n .taken) (base + i) from) p (drop (i + 1) bytes)) next
+      = t .2 ∙ ap (λ (p : ℕ). rest (m .taken) (m .value) (began (n .taken) (base + i) from) p (drop (i + 1) bytes)) next
       in record {
-           few = t .0;
-           small = t .1;
-           size = w .size;
-           clear = ap (λ (its : List Item). first-fault (item-checks (symbols b .count) its)) (sym same) ∙ w .clear;
-           noted = λ s h. ap (λ (its : List Item). getD marks s false || lists b s its) (sym same) ∙ w .noted s h;
-         }
+        few = t .0;
+        small = t .1;
+        size = w .size;
+        clear = ap (λ (its : List Item). first-fault (item-checks (symbols b .count) its)) (sym same) ∙ w .clear;
+        noted = λ s h. ap (λ (its : List Item). getD marks s false || lists b s its) (sym same) ∙ w .noted s h;
+      }
 
   ended : (m : Number) → Scanned b base bytes i n from marks → i < length bytes → getD bytes i 0 < 256
-    → Ok (Whole m) ≡ gathered n (getD bytes i 0) (began (n .taken) (base + i) from)
-    → rest (n .taken) (n .value) from (base + i) (drop i bytes)
+      → Ok (Whole m) ≡ gathered n (getD bytes i 0) (began (n .taken) (base + i) from)
+      → rest (n .taken) (n .value) from (base + i) (drop i bytes)
       ≡ (record { place = began (n .taken) (base + i) from; number = Ok m } ∷ items (Some 0) (base + (i + 1)) (drop (i + 1) bytes))
   ended m w lt x e =
       turn-at (Ok (Whole m)) w lt x e
@@ -246,43 +247,43 @@ module _ (b : List ℕ) (base : ℕ) (bytes : List ℕ) (i : ℕ) (n : Number) (
 
   -- the number is whole, and no symbol
   pub no-symbol : (f : Fault) (m : Number) → Scanned b base bytes i n from marks → i < length bytes → getD bytes i 0 < 256
-    → Ok (Whole m) ≡ gathered n (getD bytes i 0) (began (n .taken) (base + i) from)
-    → first-fault (number-checks (symbols b .count) (began (n .taken) (base + i) from) (Ok m)) ≡ Some f
-    → first-fault (item-checks (symbols b .count) (all base bytes)) ≡ Some f
+      → Ok (Whole m) ≡ gathered n (getD bytes i 0) (began (n .taken) (base + i) from)
+      → first-fault (number-checks (symbols b .count) (began (n .taken) (base + i) from) (Ok m)) ≡ Some f
+      → first-fault (item-checks (symbols b .count) (all base bytes)) ≡ Some f
   no-symbol f m w lt x e g =
       sym (w .clear)
       ∙ (ap (λ (its : List Item). first-fault (item-checks (symbols b .count) its)) (ended m w lt x e)
-         ∙ append-some (number-checks (symbols b .count) (began (n .taken) (base + i) from) (Ok m))
-           (item-checks (symbols b .count) (items (Some 0) (base + (i + 1)) (drop (i + 1) bytes))) f g)
+      ∙ append-some (number-checks (symbols b .count) (began (n .taken) (base + i) from) (Ok m))
+      (item-checks (symbols b .count) (items (Some 0) (base + (i + 1)) (drop (i + 1) bytes))) f g)
 
   -- the number is whole, and a symbol
   pub is-whole : (m : Number) → Scanned b base bytes i n from marks → i < length bytes → getD bytes i 0 < 256
-    → Ok (Whole m) ≡ gathered n (getD bytes i 0) (began (n .taken) (base + i) from)
-    → first-fault (number-checks (symbols b .count) (began (n .taken) (base + i) from) (Ok m)) ≡ None
-    → Scanned b base bytes (i + 1) none-yet (began (n .taken) (base + i) from) (marked (symbol b (m .value)) marks)
+      → Ok (Whole m) ≡ gathered n (getD bytes i 0) (began (n .taken) (base + i) from)
+      → first-fault (number-checks (symbols b .count) (began (n .taken) (base + i) from) (Ok m)) ≡ None
+      → Scanned b base bytes (i + 1) none-yet (began (n .taken) (base + i) from) (marked (symbol b (m .value)) marks)
   is-whole m w lt x e g =
       let same = ended m w lt x e
       in let left : List Item = items (Some 0) (base + (i + 1)) (drop (i + 1) bytes)
       in record {
-           few = omega arith;
-           small = omega arith;
-           size = marked-size (symbol b (m .value)) marks ∙ w .size;
-           clear =
-             sym (append-none (number-checks (symbols b .count) (began (n .taken) (base + i) from) (Ok m)) (item-checks (symbols b .count) left) g)
-             ∙ (ap (λ (its : List Item). first-fault (item-checks (symbols b .count) its)) (sym same) ∙ w .clear);
-           noted = λ s h.
-             ap (λ (t : Bool). t || lists b s left) (marked-is (symbol b (m .value)) marks s h (w .size))
-             ∙ (or-assoc (getD marks s false) (defined-in (symbol b (m .value)) s) (lists b s left)
-                ∙ (ap (λ (its : List Item). getD marks s false || lists b s its) (sym same) ∙ w .noted s h));
-         }
+        few = omega arith;
+        small = omega arith;
+        size = marked-size (symbol b (m .value)) marks ∙ w .size;
+        clear =
+            sym (append-none (number-checks (symbols b .count) (began (n .taken) (base + i) from) (Ok m)) (item-checks (symbols b .count) left) g)
+            ∙ (ap (λ (its : List Item). first-fault (item-checks (symbols b .count) its)) (sym same) ∙ w .clear);
+        noted = λ s h.
+            ap (λ (t : Bool). t || lists b s left) (marked-is (symbol b (m .value)) marks s h (w .size))
+            ∙ (or-assoc (getD marks s false) (defined-in (symbol b (m .value)) s) (lists b s left)
+            ∙ (ap (λ (its : List Item). getD marks s false || lists b s its) (sym same) ∙ w .noted s h));
+      }
 
   -- the bytes end within a number
   pub cut-off : Scanned b base bytes i n from marks → length bytes ≤ i → (n .taken ≡ 0 → ⊥)
-    → first-fault (item-checks (symbols b .count) (all base bytes)) ≡ Some (misshapen from)
+      → first-fault (item-checks (symbols b .count) (all base bytes)) ≡ Some (misshapen from)
   cut-off w l z =
       sym (w .clear)
       ∙ (ap (λ (xs : List ℕ). first-fault (item-checks (symbols b .count) (rest (n .taken) (n .value) from (base + i) xs))) (drop-all i bytes l)
-         ∙ go (n .taken) z)
+      ∙ go (n .taken) z)
     where
       go : (k : ℕ) → (k ≡ 0 → ⊥) → first-fault (item-checks (symbols b .count) (rest k (n .value) from (base + i) [])) ≡ Some (misshapen from)
       go zero z′ = absurd (z′ refl)
@@ -290,15 +291,17 @@ module _ (b : List ℕ) (base : ℕ) (bytes : List ℕ) (i : ℕ) (n : Number) (
 
   -- the bytes end after a number
   pub all-read : Scanned b base bytes i n from marks → length bytes ≤ i → n .taken ≡ 0
-    → (first-fault (item-checks (symbols b .count) (all base bytes)) ≡ None) × (marks ≡ map (listed-in b (all base bytes)) (counting 0 1024))
+      → (first-fault (item-checks (symbols b .count) (all base bytes)) ≡ None) × (marks ≡ map (listed-in b (all base bytes)) (counting 0 1024))
   all-read w l z =
       let done : rest (n .taken) (n .value) from (base + i) (drop i bytes) ≡ []
-            = ap (λ (xs : List ℕ). rest (n .taken) (n .value) from (base + i) xs) (drop-all i bytes l) ∙ ap (λ (k : ℕ). rest k (n .value) from (base + i) []) z
-      in (sym (w .clear) ∙ ap (λ (its : List Item). first-fault (item-checks (symbols b .count) its)) done,
-          fill-by-all (listed-in b (all base bytes)) marks 1024 false (w .size)
-          (λ s h. sym (or-none (getD marks s false)) ∙ (ap (λ (its : List Item). getD marks s false || lists b s its) (sym done) ∙ w .noted s h)))
+      = ap (λ (xs : List ℕ). rest (n .taken) (n .value) from (base + i) xs) (drop-all i bytes l) ∙ ap (λ (k : ℕ). rest k (n .value) from (base + i) []) z
+      in (
+        sym (w .clear) ∙ ap (λ (its : List Item). first-fault (item-checks (symbols b .count) its)) done,
+        fill-by-all (listed-in b (all base bytes)) marks 1024 false (w .size)
+            (λ s h. sym (or-none (getD marks s false)) ∙ (ap (λ (its : List Item). getD marks s false || lists b s its) (sym done) ∙ w .noted s h)),
+      )
 
 -- the same state, told otherwise
 pub moved : (b : List ℕ) (base : ℕ) (bytes : List ℕ) (i : ℕ) (n n′ : Number) (from from′ : ℕ) (marks marks′ : List Bool)
-  → n ≡ n′ → from ≡ from′ → marks ≡ marks′ → Scanned b base bytes i n′ from′ marks′ → Scanned b base bytes i n from marks
+    → n ≡ n′ → from ≡ from′ → marks ≡ marks′ → Scanned b base bytes i n′ from′ marks′ → Scanned b base bytes i n from marks
 moved b base bytes i n n′ from from′ marks marks′ p q r w = rw (p, q, r) w

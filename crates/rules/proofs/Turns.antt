@@ -45,50 +45,52 @@ start b =
 
 -- the checks of a section, of which the part is told
 whole : (b : List ℕ) (i : ℕ) (o : Option Part) → told-part b (section b i) ≡ o
-  → first-fault (relocation-rule b i) ≡ first-fault (part-checks b i (place b i) (section b i) ++ entry-rules b o)
+    → first-fault (relocation-rule b i) ≡ first-fault (part-checks b i (place b i) (section b i) ++ entry-rules b o)
 whole b i o e = ap (λ (x : Option Part). first-fault (part-checks b i (place b i) (section b i) ++ entry-rules b x)) e
 
 -- after the last section
 pub ended : (b : List ℕ) (i n : ℕ) (refused : Option Fault) (parts : List ℕ) → Between b i refused parts → i ≡ n
-  → (first-fault (each (relocation-rule b) n) ≡ None) × (parts ≡ map (part-note b n) (counting 0 1024))
+    → (first-fault (each (relocation-rule b) n) ≡ None) × (parts ≡ map (part-note b n) (counting 0 1024))
 ended b i n refused parts w e =
     (rw e at (w .clear), fill-by-all (part-note b n) parts 1024 0 (w .size) (λ t h. w .noted t h ∙ ap (λ (x : ℕ). part-note b x t) e))
 
 module _ (b : List ℕ) (i : ℕ) (refused : Option Fault) (parts : List ℕ) where
   -- a section without relocations that count
   pub passed-over : Between b i refused parts
-    → Ok None ≡ answer (first-fault (part-checks b i (place b i) (section b i))) (told-part b (section b i)) → Between b (i + 1) refused parts
+      → Ok None ≡ answer (first-fault (part-checks b i (place b i) (section b i))) (told-part b (section b i)) → Between b (i + 1) refused parts
   passed-over w e =
       let k = ok-none (first-fault (part-checks b i (place b i) (section b i))) None (told-part b (section b i)) e
       in record {
-           none = w .none;
-           size = w .size;
-           noted = parted-same b i parts (sym (k .1)) (w .noted);
-           clear = each-more (relocation-rule b) i (w .clear)
-                   (whole b i None (sym (k .1)) ∙ append-both (part-checks b i (place b i) (section b i)) (entry-rules b None) (k .0) refl);
-         }
+        none = w .none;
+        size = w .size;
+        noted = parted-same b i parts (sym (k .1)) (w .noted);
+        clear = each-more (relocation-rule b) i (w .clear)
+            (whole b i None (sym (k .1)) ∙ append-both (part-checks b i (place b i) (section b i)) (entry-rules b None) (k .0) refl);
+      }
 
   -- a section with relocations
   pub into : (m : Part) → Between b i refused parts → sections b ≤ 1024
-    → Ok (Some m) ≡ answer (first-fault (part-checks b i (place b i) (section b i))) (told-part b (section b i))
-    → (m .target < 1024) × Within b i refused (set parts (m .target) i) m 0
+      → Ok (Some m) ≡ answer (first-fault (part-checks b i (place b i) (section b i))) (told-part b (section b i))
+      → (m .target < 1024) × Within b i refused (set parts (m .target) i) m 0
   into m w few e =
       let k = ok-none (first-fault (part-checks b i (place b i) (section b i))) (Some m) (told-part b (section b i)) e
       in let more = parted-more b i parts m (sym (k .1)) (accepts (part-checks b i (place b i) (section b i)) (k .0)) (w .size) few (w .noted)
-      in (more .0,
-          record {
-            none = w .none;
-            size = length-set parts (m .target) i ∙ w .size;
-            noted = more .1;
-            clear = w .clear;
-            passed = k .0;
-            told = sym (k .1);
-            entries = refl;
-          })
+      in (
+        more .0,
+        record {
+          none = w .none;
+          size = length-set parts (m .target) i ∙ w .size;
+          noted = more .1;
+          clear = w .clear;
+          passed = k .0;
+          told = sym (k .1);
+          entries = refl;
+        },
+      )
 
   -- one entry more
   pub entry-more : (m : Part) (j : ℕ) → Within b i refused parts m j
-    → first-fault (entry-checks b (m .size) (m .from + 24 * j) (entry-at b (m .from + 24 * j))) ≡ None → Within b i refused parts m (j + 1)
+      → first-fault (entry-checks b (m .size) (m .from + 24 * j) (entry-at b (m .from + 24 * j))) ≡ None → Within b i refused parts m (j + 1)
   entry-more m j w e =
       record {
         none = w .none;
@@ -108,25 +110,25 @@ module _ (b : List ℕ) (i : ℕ) (refused : Option Fault) (parts : List ℕ) wh
         size = w .size;
         noted = w .noted;
         clear = each-more (relocation-rule b) i (w .clear)
-                (whole b i (Some m) (w .told)
-                 ∙ append-both (part-checks b i (place b i) (section b i)) (entry-rules b (Some m)) (w .passed) (rw e at (w .entries)));
+            (whole b i (Some m) (w .told)
+            ∙ append-both (part-checks b i (place b i) (section b i)) (entry-rules b (Some m)) (w .passed) (rw e at (w .entries)));
       }
 
   -- a fault of the section as a whole
   pub part-found : (n : ℕ) (f : Fault) → Between b i refused parts → i < n
-    → Err f ≡ answer (first-fault (part-checks b i (place b i) (section b i))) (told-part b (section b i))
-    → first-fault (each (relocation-rule b) n) ≡ Some f
+      → Err f ≡ answer (first-fault (part-checks b i (place b i) (section b i))) (told-part b (section b i))
+      → first-fault (each (relocation-rule b) n) ≡ Some f
   part-found n f w lt e =
       each-found (relocation-rule b) i n f lt (w .clear)
       (append-some (part-checks b i (place b i) (section b i)) (entry-rules b (told-part b (section b i))) f
-       (err-some (first-fault (part-checks b i (place b i) (section b i))) f (told-part b (section b i)) e))
+      (err-some (first-fault (part-checks b i (place b i) (section b i))) f (told-part b (section b i)) e))
 
   -- a fault of an entry
   pub entry-found : (n : ℕ) (f : Fault) (m : Part) (j : ℕ) → Within b i refused parts m j → i < n → j < m .count
-    → first-fault (entry-checks b (m .size) (m .from + 24 * j) (entry-at b (m .from + 24 * j))) ≡ Some f
-    → first-fault (each (relocation-rule b) n) ≡ Some f
+      → first-fault (entry-checks b (m .size) (m .from + 24 * j) (entry-at b (m .from + 24 * j))) ≡ Some f
+      → first-fault (each (relocation-rule b) n) ≡ Some f
   entry-found n f m j w lt l e =
       each-found (relocation-rule b) i n f lt (w .clear)
       (whole b i (Some m) (w .told)
-       ∙ (append-none (part-checks b i (place b i) (section b i)) (entry-rules b (Some m)) (w .passed)
-          ∙ each-found (entry-rule b (m .size) (m .from)) j (m .count) f l (w .entries) e))
+      ∙ (append-none (part-checks b i (place b i) (section b i)) (entry-rules b (Some m)) (w .passed)
+      ∙ each-found (entry-rule b (m .size) (m .from)) j (m .count) f l (w .entries) e))

@@ -42,8 +42,8 @@ abbrev pub identified : List ℕ → Bool
 identified b =
     eqb (getD b 0 0) 0x7F
     && (eqb (getD b 1 0) 0x45
-        && (eqb (getD b 2 0) 0x4C
-            && (eqb (getD b 3 0) 0x46 && (eqb (getD b 4 0) 2 && (eqb (getD b 5 0) 1 && eqb (getD b 6 0) 1)))))
+    && (eqb (getD b 2 0) 0x4C
+    && (eqb (getD b 3 0) 0x46 && (eqb (getD b 4 0) 2 && (eqb (getD b 5 0) 1 && eqb (getD b 6 0) 1)))))
 
 abbrev pub head-rule : List ℕ → List Check
 head-rule b =
@@ -69,9 +69,9 @@ content-checks p h =
     where-holds
     (present h)
     (check (ltb (h .flags) (2 ^ 32)) (fault-at Misshapen (p + 8))
-     ∷ check (leb (h .size) 65535) (fault-at Oversize (p + 32))
-     ∷ check (aligned (h .alignment)) (fault-at Misshapen (p + 48))
-     ∷ [])
+    ∷ check (leb (h .size) 65535) (fault-at Oversize (p + 32))
+    ∷ check (aligned (h .alignment)) (fault-at Misshapen (p + 48))
+    ∷ [])
 
 abbrev pub pass-checks : Pass → ℕ → ℕ → Header → List Check
 pass-checks Extents len p h = extent-checks len p h
@@ -128,9 +128,9 @@ symbol-checks b q s =
     where-holds
     (not (outside (s .section)))
     (check (ltb (s .section) 0xff00) (fault-at Misshapen (q + 6))
-     ∷ check (ltb (s .section) (sections b)) (fault-at Dangling (q + 6))
-     ∷ check (valued b s) (fault-at Misshapen (q + 8))
-     ∷ [])
+    ∷ check (ltb (s .section) (sections b)) (fault-at Dangling (q + 6))
+    ∷ check (valued b s) (fault-at Misshapen (q + 8))
+    ∷ [])
 
 -- the symbols that start at a place
 abbrev pub symbol-rule : List ℕ → ℕ → ℕ → List Check
@@ -188,9 +188,9 @@ part-checks b i p h =
     where-holds
     (relocating h)
     (check (ltb (h .info) (sections b)) (fault-at Dangling (p + 44))
-     ∷ where-holds
-       (present (section b (h .info)))
-       (fit-checks p h (isSome (part b (h .info) i)) (is-number (table b) (h .link))))
+    ∷ where-holds
+    (present (section b (h .info)))
+    (fit-checks p h (isSome (part b (h .info) i)) (is-number (table b) (h .link))))
 
 -- what is told of a section with relocations
 abbrev pub told-part : List ℕ → Header → Option Part

@@ -85,14 +85,22 @@ pub struct Notes {
 fn refusal(kind: Kind, place: u64) -> Fault
     ensures { λ r. ⌜ r ≡ fault-at kind place ⌝ }
 {
-    Fault { kind, place, layer: Layer::Format }
+    Fault {
+        kind,
+        place,
+        layer: Layer::Format,
+    }
 }
 
 // The refusal of a part that runs past the end, told at the field that says so.
 fn cut(place: u64) -> Fault
     ensures { λ r. ⌜ r ≡ cut-at place ⌝ }
 {
-    Fault { kind: Kind::Short, place, layer: Layer::Field }
+    Fault {
+        kind: Kind::Short,
+        place,
+        layer: Layer::Field,
+    }
 }
 
 // Whether `size` bytes from `offset` on end within `len`.
@@ -107,7 +115,13 @@ fn identified(b: &[u8]) -> bool
     requires { ⌜ 64 ≤ length (now b) ⌝ }
     ensures { λ r. ⌜ r ≡ identified-by (now (b .entry)) ⌝ }
 {
-    b[0] == 0x7f && b[1] == 0x45 && b[2] == 0x4c && b[3] == 0x46 && b[4] == 2 && b[5] == 1 && b[6] == 1
+    b[0] == 0x7f
+        && b[1] == 0x45
+        && b[2] == 0x4c
+        && b[3] == 0x46
+        && b[4] == 2
+        && b[5] == 1
+        && b[6] == 1
 }
 
 // The object's header; the number of sections.
@@ -278,7 +292,10 @@ fn symbols_at(b: &[u8], first: u64, n: u16, t: u16) -> Result<Symbols, Fault>
     let h = read_header(b, p)?;
     let count = table(65536, p, h)?;
     every_symbol(b, first, n, h.offset, count)?;
-    Ok(Symbols { from: h.offset, count })
+    Ok(Symbols {
+        from: h.offset,
+        count,
+    })
 }
 
 // The symbol table, where there is one.
@@ -336,7 +353,14 @@ fn fits(p: u64, h: Header, taken: bool, linked: bool) -> Result<u32, Fault>
 }
 
 // Section `i` as one with relocations.
-fn part_of(b: &[u8], first: u64, n: u16, found: Option<u16>, parts: &[u16; 1024], i: u16) -> Result<Option<Part>, Fault>
+fn part_of(
+    b: &[u8],
+    first: u64,
+    n: u16,
+    found: Option<u16>,
+    parts: &[u16; 1024],
+    i: u16,
+) -> Result<Option<Part>, Fault>
     requires { ⌜ Headed (now b) first n ⌝ }
     requires { ⌜ i < n ⌝ ∗ ⌜ found ≡ table-in (now b) ⌝ ∗ ⌜ Parted (now b) i (now parts) ⌝ }
     ensures { λ r. ⌜ r ≡ answer (first-fault (part-checks (now (b .entry)) i (place (now (b .entry)) i) (section-in (now (b .entry)) i))) (told-part (now (b .entry)) (section-in (now (b .entry)) i)) ⌝ }
@@ -356,7 +380,12 @@ fn part_of(b: &[u8], first: u64, n: u16, found: Option<u16>, parts: &[u16; 1024]
     let taken = noted(parts, h.info);
     let linked = is_number(found, h.link);
     let count = fits(p, h, taken, linked)?;
-    Ok(Some(Part { target: h.info, size: of.size, from: h.offset, count }))
+    Ok(Some(Part {
+        target: h.info,
+        size: of.size,
+        from: h.offset,
+        count,
+    }))
 }
 
 // Whether a relocation may name the symbol.
@@ -375,7 +404,15 @@ fn reached(b: &[u8], first: u64, n: u16, s: Symbol) -> Result<bool, Fault>
 }
 
 // The relocation entry `e`, which stands at `q`, of a section of some size.
-fn entry_rule(b: &[u8], first: u64, n: u16, symbols: Symbols, size: u64, q: u64, e: Entry) -> Result<(), Fault>
+fn entry_rule(
+    b: &[u8],
+    first: u64,
+    n: u16,
+    symbols: Symbols,
+    size: u64,
+    q: u64,
+    e: Entry,
+) -> Result<(), Fault>
     requires { ⌜ Headed (now b) first n ⌝ }
     requires { ⌜ Tabled (now b) symbols ⌝ ∗ ⌜ q + 24 ≤ length (now b) ⌝ }
     ensures { λ r. ⌜ r ≡ answer (first-fault (entry-checks (now (b .entry)) size q e)) tt ⌝ }
@@ -408,7 +445,13 @@ fn entry_at(b: &[u8], first: u64, n: u16, symbols: Symbols, size: u64, q: u64) -
 }
 
 // The relocations of all sections, left at the first fault; for each section the number of the one with its relocations.
-fn relocations(b: &[u8], first: u64, n: u16, found: Option<u16>, symbols: Symbols) -> Result<[u16; 1024], Fault>
+fn relocations(
+    b: &[u8],
+    first: u64,
+    n: u16,
+    found: Option<u16>,
+    symbols: Symbols,
+) -> Result<[u16; 1024], Fault>
     requires { ⌜ Headed (now b) first n ⌝ }
     requires { ⌜ found ≡ table-in (now b) ⌝ ∗ ⌜ Tabled (now b) symbols ⌝ ∗ ⌜ first-fault (each (pass-rule Extents (now b)) n) ≡ None ⌝ }
     ensures { λ r. ⌜ r ≡ answer (first-fault (each (relocation-rule (now (b .entry))) n)) (map (part-note (now (b .entry)) n) (counting 0 1024)) ⌝ }
@@ -507,7 +550,13 @@ fn listing_at(b: &[u8], first: u64, n: u16, a: u16, symbols: Symbols) -> Result<
 }
 
 // The address-significance table, where there is one.
-fn significance(b: &[u8], first: u64, n: u16, found: Option<u16>, symbols: Symbols) -> Result<[bool; 1024], Fault>
+fn significance(
+    b: &[u8],
+    first: u64,
+    n: u16,
+    found: Option<u16>,
+    symbols: Symbols,
+) -> Result<[bool; 1024], Fault>
     requires { ⌜ Headed (now b) first n ⌝ }
     requires { ⌜ found ≡ significance-in (now b) ⌝ ∗ ⌜ Tabled (now b) symbols ⌝ ∗ ⌜ first-fault (each (pass-rule Extents (now b)) n) ≡ None ⌝ }
     ensures { λ r. ⌜ r ≡ answer (first-fault (listing-rule (now (b .entry)))) (marks-in (now (b .entry))) ⌝ }
@@ -536,7 +585,13 @@ fn roots(b: &[u8], first: u64, n: u16) -> Result<([u16; 1024], u16), Fault>
 }
 
 // The address-significance table and the roots.
-fn on_listing(b: &[u8], first: u64, n: u16, symbols: Symbols, parts: [u16; 1024]) -> Result<Notes, Fault>
+fn on_listing(
+    b: &[u8],
+    first: u64,
+    n: u16,
+    symbols: Symbols,
+    parts: [u16; 1024],
+) -> Result<Notes, Fault>
     requires { ⌜ Headed (now b) first n ⌝ }
     requires { ⌜ parts ≡ parts-in (now b) ⌝ ∗ ⌜ Tabled (now b) symbols ⌝ ∗ ⌜ first-fault (each (pass-rule Extents (now b)) n) ≡ None ⌝ }
     ensures { λ r. ⌜ Ends (now (b .entry)) (from-only-listing (now (b .entry))) r ⌝ }
@@ -544,11 +599,24 @@ fn on_listing(b: &[u8], first: u64, n: u16, symbols: Symbols, parts: [u16; 1024]
     let table = only(b, first, n, 0x6fff4c03)?;
     let listed = significance(b, first, n, table, symbols)?;
     let (kept, count) = roots(b, first, n)?;
-    Ok(Notes { symbols, parts, significant: table.is_some(), listed, roots: kept, count })
+    Ok(Notes {
+        symbols,
+        parts,
+        significant: table.is_some(),
+        listed,
+        roots: kept,
+        count,
+    })
 }
 
 // The relocations, and what comes after them.
-fn on_relocations(b: &[u8], first: u64, n: u16, found: Option<u16>, symbols: Symbols) -> Result<Notes, Fault>
+fn on_relocations(
+    b: &[u8],
+    first: u64,
+    n: u16,
+    found: Option<u16>,
+    symbols: Symbols,
+) -> Result<Notes, Fault>
     requires { ⌜ Headed (now b) first n ⌝ }
     requires { ⌜ found ≡ table-in (now b) ⌝ ∗ ⌜ Tabled (now b) symbols ⌝ ∗ ⌜ first-fault (each (pass-rule Extents (now b)) n) ≡ None ⌝ }
     ensures { λ r. ⌜ Ends (now (b .entry)) (from-relocations (now (b .entry))) r ⌝ }

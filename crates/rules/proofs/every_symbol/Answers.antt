@@ -19,9 +19,9 @@ returns-in-Break-symbol-rule c =
     in let found = err-some (first-fault (symbol-checks b q (c .in-Continue-s .s))) f tt (c .in-Break-symbol-rule .ensures tt)
     in let p = err-from-errBy (c .from-residual-in-Break-symbol-rule .result) (c .from-residual-in-Break-symbol-rule .ensures .1)
     in rw (p .1, p .2)
-       (answer-some (first-fault (each (symbol-rule b (c .args .from)) (c .args .count))) f tt
-        (each-found (symbol-rule b (c .args .from)) (c .loop-j .j) (c .args .count) f (c .loop-j-test .taken) (c .loop-j .inv)
-         (ap (λ (x : Symbol). first-fault (symbol-checks b q x)) (sym s) ∙ found)))
+    (answer-some (first-fault (each (symbol-rule b (c .args .from)) (c .args .count))) f tt
+    (each-found (symbol-rule b (c .args .from)) (c .loop-j .j) (c .args .count) f (c .loop-j-test .taken) (c .loop-j .inv)
+    (ap (λ (x : Symbol). first-fault (symbol-checks b q x)) (sym s) ∙ found)))
 
 pub loop-j-again : need.loop-j-again
 loop-j-again c =

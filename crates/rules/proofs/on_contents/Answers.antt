@@ -24,8 +24,8 @@ returns-in-Break-every-section c =
     in let f = c .in-Break-every-section .field-0 .0
     in let p = err-from-errBy (c .from-residual .result) (c .from-residual .ensures .1)
     in rw (p .1, p .2)
-       (ends-err b (each (pass-rule Contents b) (sections b)) (from-only-table b) f
-        (ap (λ (x : ℕ). first-fault (each (pass-rule Contents b) x)) (sym (c .pre .0 .count-right)) ∙ err-some (first-fault (each (pass-rule Contents b) (c .args .n))) f tt (c .in-Break-every-section .ensures tt)))
+    (ends-err b (each (pass-rule Contents b) (sections b)) (from-only-table b) f
+    (ap (λ (x : ℕ). first-fault (each (pass-rule Contents b) x)) (sym (c .pre .0 .count-right)) ∙ err-some (first-fault (each (pass-rule Contents b) (c .args .n))) f tt (c .in-Break-every-section .ensures tt)))
 
 pub returns-in-Break-found : need.returns-in-Break-found
 returns-in-Break-found c =
@@ -34,11 +34,11 @@ returns-in-Break-found c =
     in let good = ok-none (first-fault (each (pass-rule Contents b) (c .args .n))) (c .in-Continue-every-section .field-0) tt (c .in-Continue-every-section .ensures tt)
     in let p = err-from-errBy (c .from-residual-in-Break-found .result) (c .from-residual-in-Break-found .ensures .1)
     in rw (p .1, p .2)
-       (ends-on b (each (pass-rule Contents b) (sections b)) (from-only-table b) (Err f)
-        (ap (λ (x : ℕ). first-fault (each (pass-rule Contents b) x)) (sym (c .pre .0 .count-right)) ∙ good .0)
-        (ends-err b (each (only-rule 2 b) (sections b)) (from-table b) f
-         (ap (λ (x : ℕ). first-fault (each (only-rule 2 b) x)) (sym (c .pre .0 .count-right))
-          ∙ err-some (first-fault (each (only-rule 2 b) (c .args .n))) f (first-where (of-kind 2 b) (c .args .n)) (c .in-Break-found .ensures tt))))
+    (ends-on b (each (pass-rule Contents b) (sections b)) (from-only-table b) (Err f)
+    (ap (λ (x : ℕ). first-fault (each (pass-rule Contents b) x)) (sym (c .pre .0 .count-right)) ∙ good .0)
+    (ends-err b (each (only-rule 2 b) (sections b)) (from-table b) f
+    (ap (λ (x : ℕ). first-fault (each (only-rule 2 b) x)) (sym (c .pre .0 .count-right))
+    ∙ err-some (first-fault (each (only-rule 2 b) (c .args .n))) f (first-where (of-kind 2 b) (c .args .n)) (c .in-Break-found .ensures tt))))
 
 pub on-table-requires : need.on-table-requires
 on-table-requires c κs =
@@ -52,6 +52,6 @@ returns c =
     in let good = ok-none (first-fault (each (pass-rule Contents b) (c .args .n))) (c .in-Continue-every-section .field-0) tt (c .in-Continue-every-section .ensures tt)
     in let found = ok-none (first-fault (each (only-rule 2 b) (c .args .n))) (c .in-Continue-found .found) (first-where (of-kind 2 b) (c .args .n)) (c .in-Continue-found .ensures tt)
     in ends-on b (each (pass-rule Contents b) (sections b)) (from-only-table b) (c .on-table .result)
-       (ap (λ (x : ℕ). first-fault (each (pass-rule Contents b) x)) (sym (c .pre .0 .count-right)) ∙ good .0)
-       (ends-on b (each (only-rule 2 b) (sections b)) (from-table b) (c .on-table .result)
-        (ap (λ (x : ℕ). first-fault (each (only-rule 2 b) x)) (sym (c .pre .0 .count-right)) ∙ found .0) (c .on-table .ensures))
+    (ap (λ (x : ℕ). first-fault (each (pass-rule Contents b) x)) (sym (c .pre .0 .count-right)) ∙ good .0)
+    (ends-on b (each (only-rule 2 b) (sections b)) (from-table b) (c .on-table .result)
+    (ap (λ (x : ℕ). first-fault (each (only-rule 2 b) x)) (sym (c .pre .0 .count-right)) ∙ found .0) (c .on-table .ensures))

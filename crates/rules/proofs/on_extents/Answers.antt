@@ -24,12 +24,12 @@ returns-in-Break-every-section c =
     in let f = c .in-Break-every-section .field-0 .0
     in let p = err-from-errBy (c .from-residual .result) (c .from-residual .ensures .1)
     in rw (p .1, p .2)
-       (ends-err b (each (pass-rule Extents b) (sections b)) (from-contents b) f
-        (ap (λ (x : ℕ). first-fault (each (pass-rule Extents b) x)) (sym (c .pre .count-right)) ∙ err-some (first-fault (each (pass-rule Extents b) (c .args .n))) f tt (c .in-Break-every-section .ensures tt)))
+    (ends-err b (each (pass-rule Extents b) (sections b)) (from-contents b) f
+    (ap (λ (x : ℕ). first-fault (each (pass-rule Extents b) x)) (sym (c .pre .count-right)) ∙ err-some (first-fault (each (pass-rule Extents b) (c .args .n))) f tt (c .in-Break-every-section .ensures tt)))
 
 pub returns : need.returns
 returns c =
     let b = c .args .b .now
     in let good = ok-none (first-fault (each (pass-rule Extents b) (c .args .n))) (c .in-Continue-every-section .field-0) tt (c .in-Continue-every-section .ensures tt)
     in ends-on b (each (pass-rule Extents b) (sections b)) (from-contents b) (c .on-contents .result)
-       (ap (λ (x : ℕ). first-fault (each (pass-rule Extents b) x)) (sym (c .pre .count-right)) ∙ good .0) (c .on-contents .ensures)
+    (ap (λ (x : ℕ). first-fault (each (pass-rule Extents b) x)) (sym (c .pre .count-right)) ∙ good .0) (c .on-contents .ensures)

@@ -27,9 +27,9 @@ returns-in-Break-table c =
     in let f = c .in-Break-table .field-0 .0
     in let p = err-from-errBy (c .from-residual .result) (c .from-residual .ensures .1)
     in rw (p .1, p .2)
-       (ends-err b (each (only-rule significance-kind b) (sections b)) (listing-rule b) f
-        (ap (λ (x : ℕ). first-fault (each (only-rule significance-kind b) x)) (sym (c .pre .0 .count-right))
-         ∙ err-some (first-fault (each (only-rule significance-kind b) (c .args .n))) f (first-where (of-kind significance-kind b) (c .args .n)) (c .in-Break-table .ensures tt)))
+    (ends-err b (each (only-rule significance-kind b) (sections b)) (listing-rule b) f
+    (ap (λ (x : ℕ). first-fault (each (only-rule significance-kind b) x)) (sym (c .pre .0 .count-right))
+    ∙ err-some (first-fault (each (only-rule significance-kind b) (c .args .n))) f (first-where (of-kind significance-kind b) (c .args .n)) (c .in-Break-table .ensures tt)))
 
 pub significance-requires : need.significance-requires
 significance-requires c κs =
@@ -44,9 +44,9 @@ returns-in-Break-listed c =
     in let found = ok-none (first-fault (each (only-rule significance-kind b) (c .args .n))) (c .in-Continue-table .table) (first-where (of-kind significance-kind b) (c .args .n)) (c .in-Continue-table .ensures tt)
     in let p = err-from-errBy (c .from-residual-in-Break-listed .result) (c .from-residual-in-Break-listed .ensures .1)
     in rw (p .1, p .2)
-       (ends-on b (each (only-rule significance-kind b) (sections b)) (listing-rule b) (Err f)
-        (ap (λ (x : ℕ). first-fault (each (only-rule significance-kind b) x)) (sym (c .pre .0 .count-right)) ∙ found .0)
-        (err-some (first-fault (listing-rule b)) f (marks b) (c .in-Break-listed .ensures tt)))
+    (ends-on b (each (only-rule significance-kind b) (sections b)) (listing-rule b) (Err f)
+    (ap (λ (x : ℕ). first-fault (each (only-rule significance-kind b) x)) (sym (c .pre .0 .count-right)) ∙ found .0)
+    (err-some (first-fault (listing-rule b)) f (marks b) (c .in-Break-listed .ensures tt)))
 
 pub returns : need.returns
 returns c =
@@ -56,13 +56,14 @@ returns c =
     in let listed = ok-none (first-fault (listing-rule b)) (c .in-Continue-listed .listed) (marks b) (c .in-Continue-listed .ensures tt)
     in let rooted = c .in-Continue-kept .ensures tt
     in ends-on b (each (only-rule significance-kind b) (sections b)) (listing-rule b) (Ok _)
-       (ap (λ (x : ℕ). first-fault (each (only-rule significance-kind b) x)) (sym (known .count-right)) ∙ found .0)
-       (listed .0,
-        record {
-          symbols-right = c .pre .1 .1 .0 .symbols-right;
-          parts-right = c .pre .1 .0;
-          listing-right = c .is-some .ensures ∙ ap isSome (found .1 ∙ ap (first-where (of-kind significance-kind b)) (known .count-right));
-          marks-right = listed .1;
-          few-roots = omega (arith, rooted .few, known .few);
-          roots-right = rooted .right ∙ ap (λ (x : ℕ). kept-by (is-root b) (counting 0 x)) (known .count-right);
-        })
+    (ap (λ (x : ℕ). first-fault (each (only-rule significance-kind b) x)) (sym (known .count-right)) ∙ found .0) (
+      listed .0,
+      record {
+        symbols-right = c .pre .1 .1 .0 .symbols-right;
+        parts-right = c .pre .1 .0;
+        listing-right = c .is-some .ensures ∙ ap isSome (found .1 ∙ ap (first-where (of-kind significance-kind b)) (known .count-right));
+        marks-right = listed .1;
+        few-roots = omega (arith, rooted .few, known .few);
+        roots-right = rooted .right ∙ ap (λ (x : ℕ). kept-by (is-root b) (counting 0 x)) (known .count-right);
+      },
+    )

@@ -27,9 +27,9 @@ returns-in-Break-parts c =
     in let f = c .in-Break-parts .field-0 .0
     in let p = err-from-errBy (c .from-residual .result) (c .from-residual .ensures .1)
     in rw (p .1, p .2)
-       (ends-err b (each (relocation-rule b) (sections b)) (from-only-listing b) f
-        (ap (λ (x : ℕ). first-fault (each (relocation-rule b) x)) (sym (c .pre .0 .count-right))
-         ∙ err-some (first-fault (each (relocation-rule b) (c .args .n))) f (map (part-note b (c .args .n)) (counting 0 1024)) (c .in-Break-parts .ensures tt)))
+    (ends-err b (each (relocation-rule b) (sections b)) (from-only-listing b) f
+    (ap (λ (x : ℕ). first-fault (each (relocation-rule b) x)) (sym (c .pre .0 .count-right))
+    ∙ err-some (first-fault (each (relocation-rule b) (c .args .n))) f (map (part-note b (c .args .n)) (counting 0 1024)) (c .in-Break-parts .ensures tt)))
 
 pub on-listing-requires : need.on-listing-requires
 on-listing-requires c κs =
@@ -42,4 +42,4 @@ returns c =
     let b = c .args .b .now
     in let good = ok-none (first-fault (each (relocation-rule b) (c .args .n))) (c .in-Continue-parts .parts) (map (part-note b (c .args .n)) (counting 0 1024)) (c .in-Continue-parts .ensures tt)
     in ends-on b (each (relocation-rule b) (sections b)) (from-only-listing b) (c .on-listing .result)
-       (ap (λ (x : ℕ). first-fault (each (relocation-rule b) x)) (sym (c .pre .0 .count-right)) ∙ good .0) (c .on-listing .ensures)
+    (ap (λ (x : ℕ). first-fault (each (relocation-rule b) x)) (sym (c .pre .0 .count-right)) ∙ good .0) (c .on-listing .ensures)

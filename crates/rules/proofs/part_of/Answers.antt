@@ -19,7 +19,7 @@ returns-in-Break-count c =
     in let i = c .args .i
     in let h = c .in-Continue-h .h
     in let turn = part-turn b (c .args .first) (c .args .n) i (c .args .found) (c .args .parts .now) h (c .in-Continue-of .of) (c .noted-taken .result) (c .is-number-linked .result)
-                  (c .pre .0) (c .pre .1 .0) (c .pre .1 .1 .0) (c .pre .1 .1 .1) (c .in-Continue-h .ensures tt) (sym (c .if-not-relocating .ensures tt)) (omega arith) (c .in-Continue-of .ensures tt) (sym (c .if-not-present .ensures tt)) (c .noted-taken .ensures) (c .is-number-linked .ensures)
+    (c .pre .0) (c .pre .1 .0) (c .pre .1 .1 .0) (c .pre .1 .1 .1) (c .in-Continue-h .ensures tt) (sym (c .if-not-relocating .ensures tt)) (omega arith) (c .in-Continue-of .ensures tt) (sym (c .if-not-present .ensures tt)) (c .noted-taken .ensures) (c .is-number-linked .ensures)
     in let found = err-some (first-fault (fit-checks (c .args .first + 64 * i) h (c .noted-taken .result) (c .is-number-linked .result))) f (h .size / 24) (c .in-Break-count .ensures tt)
     in let p = err-from-errBy (c .from-residual-in-Break-count .result) (c .from-residual-in-Break-count .ensures .1)
     in rw (p .1, p .2) (answer-some (first-fault (part-checks b i (place b i) (section b i))) f (told-part b (section b i)) (turn .0 ∙ found))
@@ -30,8 +30,8 @@ returns c =
     in let i = c .args .i
     in let h = c .in-Continue-h .h
     in let turn = part-turn b (c .args .first) (c .args .n) i (c .args .found) (c .args .parts .now) h (c .in-Continue-of .of) (c .noted-taken .result) (c .is-number-linked .result)
-                  (c .pre .0) (c .pre .1 .0) (c .pre .1 .1 .0) (c .pre .1 .1 .1) (c .in-Continue-h .ensures tt) (sym (c .if-not-relocating .ensures tt)) (omega arith) (c .in-Continue-of .ensures tt) (sym (c .if-not-present .ensures tt)) (c .noted-taken .ensures) (c .is-number-linked .ensures)
+    (c .pre .0) (c .pre .1 .0) (c .pre .1 .1 .0) (c .pre .1 .1 .1) (c .in-Continue-h .ensures tt) (sym (c .if-not-relocating .ensures tt)) (omega arith) (c .in-Continue-of .ensures tt) (sym (c .if-not-present .ensures tt)) (c .noted-taken .ensures) (c .is-number-linked .ensures)
     in let none = ok-none (first-fault (fit-checks (c .args .first + 64 * i) h (c .noted-taken .result) (c .is-number-linked .result))) (c .in-Continue-count .count) (h .size / 24) (c .in-Continue-count .ensures tt)
     in rw (turn .1, none .1)
-       (answer-none (first-fault (part-checks b i (place b i) (section b i)))
-        (Some (record { target = h .info; size = c .in-Continue-of .of .size; from = h .offset; count = h .size / 24 })) (turn .0 ∙ none .0))
+    (answer-none (first-fault (part-checks b i (place b i) (section b i)))
+    (Some (record { target = h .info; size = c .in-Continue-of .of .size; from = h .offset; count = h .size / 24 })) (turn .0 ∙ none .0))

@@ -49,43 +49,43 @@ loop-j-again c =
 pub reading-again : need.reading-again
 reading-again c =
     elim (c .match-told .came) [
-      in-None w ↦
-        rw (w .refused-is, w .parts-is)
-        (passed-over (c .args .b .now) (c .reading .i) _ (c .reading .parts) (c .reading .inv) (ap Ok (sym (w .in-None .is)) ∙ c .in-Ok .ensures tt))
-    | in-Some·else-loop-j-test w ↦
-        rw (w .refused-is, w .parts-is)
-        (out (c .args .b .now) (c .reading .i) _ _ (w .in-Some .part) (w .loop-j .j) (w .loop-j .inv) (omega arith))
+      | in-None w ↦
+          rw (w .refused-is, w .parts-is)
+          (passed-over (c .args .b .now) (c .reading .i) _ (c .reading .parts) (c .reading .inv) (ap Ok (sym (w .in-None .is)) ∙ c .in-Ok .ensures tt))
+      | in-Some·else-loop-j-test w ↦
+          rw (w .refused-is, w .parts-is)
+          (out (c .args .b .now) (c .reading .i) _ _ (w .in-Some .part) (w .loop-j .j) (w .loop-j .inv) (omega arith))
     ]
 
 pub returns-in-None-refused : need.returns-in-None-refused
 returns-in-None-refused c =
     elim (c .reading-test .came) [
-      else-reading-test w ↦
-        let b = c .args .b .now
-        in let end : c .reading .i ≡ c .args .n = omega arith
-        in let done = ended b (c .reading .i) (c .args .n) _ (c .reading .parts) (c .reading .inv) end
-        in ap Ok (w .parts-is ∙ done .1) ∙ answer-none (first-fault (each (relocation-rule b) (c .args .n))) (map (part-note b (c .args .n)) (counting 0 1024)) (done .0)
-    | then-reading-test·in-Err w ↦ let z : _≡_ {A = ℕ} 0 1 = cc in absurd (omega arith)
-    | then-reading-test·in-Ok·in-Some·then-loop-j-test·in-Err-entry-at w ↦ let z : _≡_ {A = ℕ} 0 1 = cc in absurd (omega arith)
+      | else-reading-test w ↦
+          let b = c .args .b .now
+          in let end : c .reading .i ≡ c .args .n = omega arith
+          in let done = ended b (c .reading .i) (c .args .n) _ (c .reading .parts) (c .reading .inv) end
+          in ap Ok (w .parts-is ∙ done .1) ∙ answer-none (first-fault (each (relocation-rule b) (c .args .n))) (map (part-note b (c .args .n)) (counting 0 1024)) (done .0)
+      | then-reading-test·in-Err w ↦ let z : _≡_ {A = ℕ} 0 1 = cc in absurd (omega arith)
+      | then-reading-test·in-Ok·in-Some·then-loop-j-test·in-Err-entry-at w ↦ let z : _≡_ {A = ℕ} 0 1 = cc in absurd (omega arith)
     ]
 
 pub returns-in-Some-refused : need.returns-in-Some-refused
 returns-in-Some-refused c =
     elim (c .reading-test .came) [
-      else-reading-test w ↦ let none = c .reading .inv .none in let z : _≡_ {A = ℕ} 0 1 = cc in absurd (omega arith)
-    | then-reading-test·in-Err w ↦
-        let b = c .args .b .now
-        in let same : c .in-Some-refused .f ≡ w .in-Err .f = cc
-        in ap Err same
-           ∙ answer-some (first-fault (each (relocation-rule b) (c .args .n))) (w .in-Err .f) (map (part-note b (c .args .n)) (counting 0 1024))
-             (part-found b (c .reading .i) _ (c .reading .parts) (c .args .n) (w .in-Err .f) (c .reading .inv) (w .reading-test .taken) (w .in-Err .ensures tt))
-    | then-reading-test·in-Ok·in-Some·then-loop-j-test·in-Err-entry-at w ↦
-        let b = c .args .b .now
-        in let m = w .in-Some .part
-        in let q : ℕ = m .from + 24 * w .loop-j .j
-        in let same : c .in-Some-refused .f ≡ w .in-Err-entry-at .f = cc
-        in let found = err-some (first-fault (entry-checks b (m .size) q (entry-at b q))) (w .in-Err-entry-at .f) tt (w .in-Err-entry-at .ensures tt)
-        in ap Err same
-           ∙ answer-some (first-fault (each (relocation-rule b) (c .args .n))) (w .in-Err-entry-at .f) (map (part-note b (c .args .n)) (counting 0 1024))
-             (entry-found b (c .reading .i) _ _ (c .args .n) (w .in-Err-entry-at .f) m (w .loop-j .j) (w .loop-j .inv) (w .reading-test .taken) (w .loop-j-test .taken) found)
+      | else-reading-test w ↦ let none = c .reading .inv .none in let z : _≡_ {A = ℕ} 0 1 = cc in absurd (omega arith)
+      | then-reading-test·in-Err w ↦
+          let b = c .args .b .now
+          in let same : c .in-Some-refused .f ≡ w .in-Err .f = cc
+          in ap Err same
+          ∙ answer-some (first-fault (each (relocation-rule b) (c .args .n))) (w .in-Err .f) (map (part-note b (c .args .n)) (counting 0 1024))
+          (part-found b (c .reading .i) _ (c .reading .parts) (c .args .n) (w .in-Err .f) (c .reading .inv) (w .reading-test .taken) (w .in-Err .ensures tt))
+      | then-reading-test·in-Ok·in-Some·then-loop-j-test·in-Err-entry-at w ↦
+          let b = c .args .b .now
+          in let m = w .in-Some .part
+          in let q : ℕ = m .from + 24 * w .loop-j .j
+          in let same : c .in-Some-refused .f ≡ w .in-Err-entry-at .f = cc
+          in let found = err-some (first-fault (entry-checks b (m .size) q (entry-at b q))) (w .in-Err-entry-at .f) tt (w .in-Err-entry-at .ensures tt)
+          in ap Err same
+          ∙ answer-some (first-fault (each (relocation-rule b) (c .args .n))) (w .in-Err-entry-at .f) (map (part-note b (c .args .n)) (counting 0 1024))
+          (entry-found b (c .reading .i) _ _ (c .args .n) (w .in-Err-entry-at .f) m (w .loop-j .j) (w .loop-j .inv) (w .reading-test .taken) (w .loop-j-test .taken) found)
     ]

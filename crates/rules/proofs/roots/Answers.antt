@@ -14,10 +14,10 @@ loop-i-again c =
     in let i = c .loop-i .i
     in let h = header-is b (c .args .first) (c .args .n) i (c .in-Continue-h .h) (c .pre) (c .in-Continue-h .ensures tt)
     in elim (c .if-root .came) [
-         then-root w ↦
-           moved b (i + 1) (c .if-root .found) (set (c .loop-i .found) (c .loop-i .count) i) (c .if-root .count) (c .loop-i .count + 1) (w .found-is) (w .count-is)
-           (root-more b i (c .loop-i .found) (c .loop-i .count) (c .loop-i .inv) (omega (arith, c .pre .few)) (ap root (sym h) ∙ sym (w .if-root .ensures tt)))
-       | else-root w ↦
-           moved b (i + 1) (c .if-root .found) (c .loop-i .found) (c .if-root .count) (c .loop-i .count) (w .found-is) (w .count-is)
-           (root-same b i (c .loop-i .found) (c .loop-i .count) (c .loop-i .inv) (ap root (sym h) ∙ sym (w .if-root .ensures tt)))
-       ]
+      | then-root w ↦
+          moved b (i + 1) (c .if-root .found) (set (c .loop-i .found) (c .loop-i .count) i) (c .if-root .count) (c .loop-i .count + 1) (w .found-is) (w .count-is)
+          (root-more b i (c .loop-i .found) (c .loop-i .count) (c .loop-i .inv) (omega (arith, c .pre .few)) (ap root (sym h) ∙ sym (w .if-root .ensures tt)))
+      | else-root w ↦
+          moved b (i + 1) (c .if-root .found) (c .loop-i .found) (c .if-root .count) (c .loop-i .count) (w .found-is) (w .count-is)
+          (root-same b i (c .loop-i .found) (c .loop-i .count) (c .loop-i .inv) (ap root (sym h) ∙ sym (w .if-root .ensures tt)))
+    ]

@@ -32,5 +32,5 @@ pub returns-in-Some : need.returns-in-Some
 returns-in-Some c =
     let b = c .args .b .now
     in c .listing-at .ensures
-       ∙ ap (λ (o : Option ℕ). answer (first-fault (item-checks (symbols b .count) (listing-of b o))) (map (listed-in b (listing-of b o)) (counting 0 1024)))
-         (sym (c .in-Some .is) ∙ c .pre .1 .0)
+    ∙ ap (λ (o : Option ℕ). answer (first-fault (item-checks (symbols b .count) (listing-of b o))) (map (listed-in b (listing-of b o)) (counting 0 1024)))
+    (sym (c .in-Some .is) ∙ c .pre .1 .0)
