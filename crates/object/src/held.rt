@@ -11,7 +11,7 @@ ghost use Rattle.rules.specs.Notes.{parts as parts-in, marks as marks-in, roots
 ghost use Rattle.object.specs.Held.{held as held-file};
 use rules::Notes;
 
-mod calls;
+pub mod calls;
 
 // A reader of ELF64 objects. It holds the file that it read last, and at first none.
 #[derive(Drop)]
