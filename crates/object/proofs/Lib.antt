@@ -1,0 +1,4 @@
+pub mod Facts
+pub mod Lawful
+pub mod Showing
+pub mod Holding

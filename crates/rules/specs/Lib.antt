@@ -1,0 +1,5 @@
+pub mod Rules
+pub mod Known
+pub mod Listing
+pub mod Verdict
+pub mod Notes
