@@ -25,9 +25,9 @@ use Rattle.rules.specs.declared.Part.{Part}
 use Rattle.rules.specs.Known.{Headed}
 use Rattle.rules.specs.Rules.{check, fault-at, head-rule, pass-rule, only-rule, content-checks, table-checks, table-rule, table-rule-of, table, symbols, symbols-of, symbol, symbol-rule, symbol-checks, valued, relocation-rule, part-checks, told-part, entry-rules, entry-rule, entry-checks, reached, in-range, part, relocates, relocating}
 use Rattle.rules.specs.Verdict.{accepted, from-extents, from-contents, from-only-table, from-table, from-relocations, from-only-listing}
-use Rattle.rules.proofs.Firsts.{first-where-is, only-is, extent-is}
-use Rattle.rules.proofs.Parting.{Fit, passed}
-use Rattle.rules.proofs.Ending.{headed}
+use Rattle.reading.proofs.Firsts.{first-where-is, only-is, extent-is}
+use Rattle.reading.proofs.Parting.{Fit, passed}
+use Rattle.reading.proofs.Ending.{headed}
 use Rattle.object.specs.Meaning.{bytes-of, low}
 use Rattle.object.specs.Held.{held}
 

@@ -18,7 +18,7 @@ use Rattle.rules.specs.declared.Notes.{Notes}
 use Rattle.rules.specs.declared.Symbols.{Symbols}
 use Rattle.rules.specs.Notes.{Noted, part-note, parts}
 use Rattle.rules.specs.Verdict.{checks, accepted}
-use Rattle.rules.proofs.Ending.{unlisted}
+use Rattle.reading.proofs.Ending.{unlisted}
 use Rattle.model.specs.Graph.{empty}
 use Rattle.object.specs.declared.held.Object.{Object}
 use Rattle.object.specs.Meaning.{meaning}

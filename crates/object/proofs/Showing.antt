@@ -37,7 +37,7 @@ use Rattle.fault.specs.declared.Fault.{Fault}
 use Rattle.field.specs.Fields.{within, short}
 use Rattle.elf.specs.Layout.{place}
 use Rattle.rules.specs.Rules.{relocates}
-use Rattle.rules.proofs.Firsts.{first-where-is}
+use Rattle.reading.proofs.Firsts.{first-where-is}
 use Rattle.object.proofs.Facts.{Facts, held-facts, held-few, header-ends, Sound, sound, bytes-length, Whole, whole, Entered, entered, Tables, tables, value-within, inside}
 use Rattle.elf.specs.declared.Symbol.{Symbol}
 use Rattle.elf.specs.declared.Entry.{Entry}

@@ -2,5 +2,6 @@
 // specs/Meaning.antt.
 mod held;
 mod view;
+
 pub use held::Object;
 pub use held::calls::ObjectGraph;

@@ -12,9 +12,9 @@ use fault::Fault;
 use graph::SectionGraph;
 use model::Record;
 use model::Relocation;
+use reading::examine;
 use rules::Notes;
 use rules::Symbols;
-use rules::examine;
 use std::alloc::Global;
 
 impl Object {
