@@ -54,7 +54,7 @@ stable-pair T g k s t =
 abbrev pub stable-by : {M F : Type 0} → Telling M F → Graph → ℕ → Bool
 stable-by T g k = all-below (λ s. all-below (stable-pair T g k s) (count-of g)) (count-of g)
 
--- the least such depth; the theorem `Settles` says that the count of sections is one
+-- the least such depth; `Groups-settle` says that there is one not above the count of sections
 unfoldable pub rounds-by : {M F : Type 0} → Telling M F → Graph → ℕ
 rounds-by T g = least-below (stable-by T g) (count-of g)
 
