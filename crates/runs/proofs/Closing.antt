@@ -1,39 +1,25 @@
 -- What a sweep and a fold have in common.
-use Prim.Native.Nat.{ℕ, zero, suc, _≤_, _<_, _+_}
+use Prim.Native.Nat.{ℕ, _<_}
 use native.Mathlib.Omega.{arith}
 use mathlib.Core.Path.{_≡_, refl, sym, ap, subst, _∙_}
-use mathlib.Core.Logic.{_⊎_, inl, inr, ⊎-elim}
-use mathlib.Core.Bool.{Bool, true, false, not, _&&_, _||_, cond}
-use mathlib.Core.List.{List, [], _∷_, _++_}
-use lib.Dec.{eqb, leb}
-use lib.ListN.{length, getD, replicate}
+use mathlib.Core.Logic.{⊎-elim}
+use mathlib.Core.Bool.{Bool, true, false, not, _&&_, cond}
+use mathlib.Core.List.{List}
 use Rattle.std.specs.declared.option.Option.{Option}
 use Rattle.std.specs.declared.option.Option.the-variants.{None, Some}
-use Rattle.std.specs.Options.{mapped, isSome}
-use Rattle.std.proofs.shelf.Tests.{both-ways, cases-bool, cond-true, cond-false, and-parts, and-from, and-left, and-right, or-cases, eqb-true, eqb-false, eq-eqb, not-true, not-from-false, not-from-true, leb-false}
+use Rattle.std.specs.Options.{isSome}
+use Rattle.std.proofs.shelf.Tests.{cases-bool, cond-true, cond-false, and-from, and-left, and-right, not-from-false, not-from-true}
 use Rattle.std.proofs.shelf.Lists.{getD-past, ext-getD}
-use Rattle.fault.specs.declared.Fault.{Fault}
-use Rattle.model.specs.Graph.{Body, Graph, Present, section-of, count-of, root-of, root-count-of}
+use Rattle.model.specs.Graph.{Body, Graph, Present, count-of, root-of, root-count-of}
 use Rattle.model.specs.Laws.{Valid}
 use Rattle.unfolding.specs.Groups.{present}
-use Rattle.unfolding.specs.Reach.{Reached, root as by-root, reached, swept}
-use Rattle.unfolding.specs.Sections.{Agree, Alike, rules, rep, folded, Apart, All-reached}
-use Rattle.unfolding.proofs.Marks.{present-bound}
-use Rattle.unfolding.proofs.Rules.{lawful-rules}
-use Rattle.unfolding.proofs.Classes.{rep-rep, rep-below}
-use Rattle.folding.proofs.Folded.{rep-present}
-use Rattle.folding.proofs.Theorems.{fold-folds, fold-valid, reach-decided, sweep-sweeps, sweep-valid, fold-keeps-reached, sweep-keeps-apart}
+use Rattle.unfolding.specs.Sections.{Alike, Apart, All-reached}
 use Rattle.calls.specs.declared.Slot.{Slot}
 use Rattle.calls.specs.declared.Slot.the-variants.{Untouched, Folded, Swept}
-use Rattle.calls.specs.declared.Call.{Call}
-use Rattle.calls.specs.declared.Call.the-variants.{Bind, Pin, Root, Sweep, Fold}
 use Rattle.calls.specs.declared.Place.{Place}
 use Rattle.calls.specs.declared.Place.the-variants.{At, Absent, Swept as Nowhere}
-use Rattle.runs.specs.Drawn.{bind, pin, root}
-use Rattle.runs.specs.State.{State, start, missing, roots-full, refusal, slot-of, slots-by, swept-slot, folded-slot, moved, unless, step, ended, found-at}
-use Rattle.runs.specs.Promise.{is-sweep, is-fold}
-use Rattle.runs.proofs.Slots.{slots-at, slots-length, fresh-at, Descending, found-untouched, found-folded, Changed, same, drops, joins, next-place, changed-descends, found-changed}
-use Rattle.runs.proofs.Draws.{bind-count, bind-present, bind-valid, pin-count, pin-present, pin-valid, root-valid}
+use Rattle.runs.specs.State.{State, slot-of, slots-by, ended, found-at}
+use Rattle.runs.proofs.Slots.{slots-at, slots-length, Changed, same, drops, joins, next-place, changed-descends, found-changed}
 use Rattle.runs.proofs.Invariant.{Invariant, untouched, present-untouched, drawn-present, found-present}
 
 -- what a sweep and a fold have in common: a present section stays or gets a new slot

@@ -1,36 +1,32 @@
 -- What binds, pins and roots do to a graph, and that they keep its laws.
-use Prim.Native.Nat.{ℕ, zero, suc, _≤_, _<_, _+_, _^_}
+use Prim.Native.Nat.{ℕ, zero, suc, _≤_, _<_}
 use native.Mathlib.Omega.{arith}
 use native.Mathlib.Numerals.{add-one}
 use mathlib.Core.Path.{_≡_, refl, sym, ap, subst, _∙_}
 use mathlib.Core.Bool.{Bool, true, false, cond}
-use mathlib.Core.List.{List, [], _∷_, _++_, map}
+use mathlib.Core.List.{List, [], _∷_, _++_}
 use lib.Dec.{eqb}
 use lib.ListN.{length}
-use lib.IntN.{ℤ, pos}
+use lib.IntN.{ℤ}
 use lib.Signed.{_≤ℤ_}
 use Rattle.std.specs.declared.option.Option.{Option}
 use Rattle.std.specs.declared.option.Option.the-variants.{None, Some}
 use Rattle.std.specs.Options.{mapped, isSome}
 use Rattle.std.specs.Finite.{nth}
-use Rattle.std.specs.shelf.Lists.{All}
-use Rattle.std.proofs.shelf.Tests.{cond-true, cond-false, eq-eqb, ne-eqb, eqb-true, eqb-false, both-ways}
+use Rattle.std.proofs.shelf.Tests.{cond-true, cond-false, eq-eqb, ne-eqb}
 use Rattle.std.proofs.shelf.Lists.{length-map, length-push}
 use Rattle.std.proofs.shelf.Elements.{all-weaker, all-push}
 use Rattle.std.proofs.shelf.Signed.{ints}
-use Rattle.model.specs.declared.Setting.the-variants.{Pinned}
 use Rattle.model.specs.declared.Target.{Target}
 use Rattle.model.specs.declared.Target.the-variants.{Section, Outside}
-use Rattle.model.specs.declared.Relocation.{Relocation}
-use Rattle.model.specs.declared.Record.{Record}
-use Rattle.model.specs.Graph.{Body, Graph, Present, section-of, count-of, record-in, told-record, told-byte, told-relocation, record-of, byte-of, relocation-of, root-of, root-count-of}
+use Rattle.model.specs.Graph.{Body, Graph, Present, section-of, count-of, told-record, told-byte, told-relocation, relocation-of, root-count-of}
 use Rattle.model.specs.Laws.{Aimed, highest, Lawful-relocation, Lawful-body, Valid}
 use Rattle.steps.proofs.Nth.{nth-map}
 use Rattle.unfolding.specs.Groups.{aimed-at, aimed, present}
 use Rattle.folding.proofs.Rebuilt.{rebuilt-at, rebuilt-length}
 use Rattle.folding.proofs.Aimed.{lawful-aimed}
 use Rattle.runs.specs.Drawn.{bound-target, bind, as-pinned, pin, root}
-use Rattle.runs.specs.Laws.{Bound-relocation, Bind-does, pinned-record, Pin-does, Root-does, Draws}
+use Rattle.runs.specs.Laws.{Bind-does, pinned-record, Pin-does, Draws}
 
 -- a section after it
 

@@ -5,7 +5,7 @@ use Rattle.std.specs.shelf.Lists.{All}
 use Rattle.unfolding.specs.Groups.{class-by, rep-by, rounds-by}
 use Rattle.unfolding.specs.Reach.{reached}
 use Rattle.unfolding.specs.Sections.{rules}
-use Rattle.runs.specs.Examples.{Outcome, outcome-of, Example, Gives, examples, Examples-hold}
+use Rattle.runs.specs.Examples.{Outcome, outcome-of, Example, examples, Examples-hold}
 
 abbrev given : Example → Outcome
 given e = outcome-of (e .below) (e .calls)

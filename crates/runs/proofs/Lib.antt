@@ -8,3 +8,4 @@ pub mod Places
 pub mod Promised
 pub mod Telling
 pub mod Examples
+pub mod Seen

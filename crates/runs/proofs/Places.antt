@@ -1,14 +1,14 @@
 -- The place question, by where the slots lead.
 use Prim.Native.Nat.{ℕ, _≤_, _<_}
 use native.Mathlib.Omega.{arith}
-use mathlib.Core.Path.{_≡_, refl, sym, ap, _∙_}
+use mathlib.Core.Path.{_≡_, refl, ap, _∙_}
 use mathlib.Core.Bool.{Bool, true, false, cond}
 use lib.Dec.{ltb}
 use Rattle.std.specs.declared.result.Result.{Result}
 use Rattle.std.specs.declared.result.Result.the-variants.{Ok, Err}
-use Rattle.std.proofs.shelf.Tests.{cond-true, cond-false, lt-ltb, le-ltb}
+use Rattle.std.proofs.shelf.Tests.{lt-ltb, le-ltb}
 use Rattle.fault.specs.declared.Fault.{Fault}
-use Rattle.model.specs.Graph.{Graph, Present, count-of}
+use Rattle.model.specs.Graph.{Present, count-of}
 use Rattle.unfolding.specs.Groups.{present}
 use Rattle.unfolding.proofs.Marks.{present-bound}
 use Rattle.calls.specs.declared.Place.{Place}

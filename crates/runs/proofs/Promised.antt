@@ -1,19 +1,14 @@
 -- The promise, from the invariant.
-use Prim.Native.Nat.{ℕ, _≤_}
-use native.Mathlib.Omega.{arith}
+use Prim.Native.Nat.{ℕ}
 use mathlib.Core.Path.{_≡_, refl, sym, ap, subst, subst₂, _∙_}
-use mathlib.Core.Logic.{_↔_}
-use mathlib.Core.Bool.{Bool, true, false, not, _&&_}
+use mathlib.Core.Bool.{Bool, true}
 use mathlib.Core.List.{List, [], _∷_, _++_}
-use lib.Dec.{eqb}
 use Rattle.std.proofs.shelf.Tests.{eq-eqb}
 use Rattle.std.specs.declared.option.Option.the-variants.{Some}
-use Rattle.model.specs.Graph.{Graph, Present, count-of, root-of, root-count-of}
-use Rattle.model.specs.Laws.{Valid}
+use Rattle.model.specs.Graph.{Graph, count-of, root-of}
 use Rattle.steps.proofs.Nth.{nth-there}
-use Rattle.unfolding.specs.Groups.{Fold-able, present, present-count}
 use Rattle.unfolding.specs.Reach.{reached, swept}
-use Rattle.unfolding.specs.Sections.{Agree, Alike, rules, rep, folded, Apart, All-reached}
+use Rattle.unfolding.specs.Sections.{Agree, Alike, rules, rep, folded, Apart}
 use Rattle.unfolding.proofs.Rules.{lawful-rules}
 use Rattle.unfolding.proofs.Classes.{rep-alike}
 use Rattle.folding.proofs.Folded.{rep-present}
@@ -24,9 +19,8 @@ use Rattle.calls.specs.declared.Call.{Call}
 use Rattle.calls.specs.declared.Call.the-variants.{Bind, Pin, Root, Sweep, Fold}
 use Rattle.calls.specs.declared.Slot.{Slot}
 use Rattle.calls.specs.declared.Slot.the-variants.{Swept}
-use Rattle.calls.specs.declared.Place.the-variants.{At}
-use Rattle.runs.specs.State.{State, closed-fault, slots-by, swept-slot, folded-slot, step, moved, run, after, start}
-use Rattle.runs.specs.Promise.{Sweeps, Folds, Placed, Root-kept, Promise, Promise-stands}
+use Rattle.runs.specs.State.{State, closed-fault, slots-by, swept-slot, folded-slot, step, run, after, start}
+use Rattle.runs.specs.Promise.{Placed, Root-kept, Promise-stands}
 use Rattle.runs.proofs.Invariant.{Invariant, found-present}
 use Rattle.runs.proofs.Places.{placed-found, found-placed}
 use Rattle.runs.proofs.Closing.{next-same}

@@ -1,27 +1,26 @@
 -- When each refusal comes, and what follows from the calls that are not refused.
-use Prim.Native.Nat.{ℕ, zero, suc, _≤_, _<_, _+_}
+use Prim.Native.Nat.{ℕ, _≤_, _<_, _+_}
 use native.Mathlib.Omega.{arith}
 use mathlib.Core.Path.{_≡_, refl, sym, ap, subst, _∙_}
-use mathlib.Core.Logic.{_⊎_, inl, inr, ⊎-elim}
-use mathlib.Core.Bool.{Bool, true, false, not, _||_, cond}
+use mathlib.Core.Logic.{_⊎_, ⊎-elim}
+use mathlib.Core.Bool.{Bool, true, false, not, _||_}
 use mathlib.Core.List.{List, [], _∷_, _++_}
 use lib.Dec.{eqb, leb}
 use lib.ListN.{length}
 use Rattle.std.specs.declared.option.Option.{Option}
 use Rattle.std.specs.declared.option.Option.the-variants.{None, Some}
-use Rattle.std.proofs.shelf.Tests.{both-ways, cases-bool, eq-eqb, eqb-true, le-leb, lt-leb, or-left, or-right, or-from, or-cases}
+use Rattle.std.proofs.shelf.Tests.{cases-bool, eq-eqb, eqb-true, le-leb, lt-leb, or-left, or-right, or-from, or-cases}
 use Rattle.std.proofs.shelf.Lists.{append-nil, append-assoc, length-append}
 use Rattle.fault.specs.declared.Fault.{Fault}
-use Rattle.model.specs.Graph.{Graph, Present, root-count-of}
+use Rattle.model.specs.Graph.{Present, root-count-of}
 use Rattle.unfolding.specs.Groups.{present}
 use Rattle.unfolding.specs.Reach.{has}
 use Rattle.calls.specs.declared.Call.{Call}
 use Rattle.calls.specs.declared.Call.the-variants.{Bind, Pin, Root, Sweep, Fold}
-use Rattle.calls.specs.declared.Answer.{Answer}
-use Rattle.runs.specs.Drawn.{bind, pin, root, drawn-by}
-use Rattle.runs.specs.State.{State, start, missing, binds-full, roots-full, refusal, moved, unless, step, refused-or, answered, answer, run, after}
+use Rattle.runs.specs.Drawn.{drawn-by}
+use Rattle.runs.specs.State.{State, start, missing, roots-full, refusal, moved, unless, step, refused-or, answered, run}
 use Rattle.runs.specs.Promise.{is-sweep, is-fold, some-call}
-use Rattle.runs.specs.Laws.{Among, here, later, Refusals, Refuses, unless-refused, accepted, drawn-all, name-in, names-in, root-in, roots-in, Follows, Run-follows}
+use Rattle.runs.specs.Laws.{Among, here, later, Refuses, unless-refused, accepted, drawn-all, name-in, names-in, root-in, roots-in, Run-follows}
 
 -- the names that were bound
 

@@ -1,10 +1,10 @@
 -- Slots: what is at a number after they are made anew, and where following them ends.
 use Prim.Native.Nat.{ℕ, zero, suc, _≤_, _<_, _+_, _-_}
 use native.Mathlib.Omega.{arith}
-use mathlib.Core.Path.{_≡_, refl, sym, ap, subst, _∙_}
+use mathlib.Core.Path.{_≡_, refl, sym, ap, _∙_}
 use mathlib.Core.Logic.{_⊎_, inl, inr, ⊎-elim}
-use mathlib.Core.List.{List, _++_}
-use lib.ListN.{length, getD, drop, replicate}
+use mathlib.Core.List.{List}
+use lib.ListN.{length, drop, replicate}
 use Rattle.std.proofs.shelf.Tests.{cases-lt}
 use Rattle.std.proofs.shelf.Lists.{getD-append-left, getD-append-right, getD-drop, getD-past, getD-replicate, length-append, length-drop, length-replicate}
 use Rattle.steps.specs.Below.{table}

@@ -1,34 +1,34 @@
 -- Every call keeps the invariant.
-use Prim.Native.Nat.{ℕ, zero, suc, _≤_, _<_, _+_}
+use Prim.Native.Nat.{ℕ, _<_}
 use native.Mathlib.Omega.{arith}
 use mathlib.Core.Path.{_≡_, refl, sym, ap, subst, _∙_}
-use mathlib.Core.Logic.{_⊎_, inl, inr, ⊎-elim}
-use mathlib.Core.Bool.{Bool, true, false, not, _&&_, _||_, cond}
-use mathlib.Core.List.{List, [], _∷_, _++_}
+use mathlib.Core.Logic.{⊎-elim}
+use mathlib.Core.Bool.{Bool, true, false, _&&_, _||_}
+use mathlib.Core.List.{List, [], _∷_}
 use lib.Dec.{eqb, leb}
 use lib.ListN.{length}
 use Rattle.std.specs.declared.option.Option.{Option}
 use Rattle.std.specs.declared.option.Option.the-variants.{None, Some}
 use Rattle.std.specs.Options.{isSome}
-use Rattle.std.proofs.shelf.Tests.{both-ways, cases-bool, and-parts, and-from, or-cases, or-parts, eqb-true, eqb-false, eq-eqb, not-false, leb-false}
+use Rattle.std.proofs.shelf.Tests.{both-ways, and-parts, and-from, or-cases, or-parts, eqb-true, eqb-false, eq-eqb, not-false, leb-false}
 use Rattle.fault.specs.declared.Fault.{Fault}
-use Rattle.model.specs.Graph.{Body, Graph, Present, section-of, count-of, root-of, root-count-of}
+use Rattle.model.specs.Graph.{Body, Graph, Present, root-of, root-count-of}
 use Rattle.model.specs.Laws.{Valid}
 use Rattle.steps.proofs.Nth.{all-at}
 use Rattle.unfolding.specs.Groups.{present}
 use Rattle.unfolding.specs.Reach.{Reached, root as by-root, has, reached, swept}
-use Rattle.unfolding.specs.Sections.{Agree, Alike, rules, rep, folded}
+use Rattle.unfolding.specs.Sections.{Alike, rules, rep, folded}
 use Rattle.unfolding.proofs.Marks.{present-bound}
 use Rattle.unfolding.proofs.Rules.{lawful-rules}
 use Rattle.unfolding.proofs.Classes.{rep-rep, rep-below}
 use Rattle.folding.proofs.Folded.{rep-present}
 use Rattle.folding.proofs.Theorems.{fold-folds, fold-valid, reach-decided, sweep-sweeps, sweep-valid, fold-keeps-reached, sweep-keeps-apart}
 use Rattle.calls.specs.declared.Slot.{Slot}
-use Rattle.calls.specs.declared.Slot.the-variants.{Untouched, Folded, Swept}
+use Rattle.calls.specs.declared.Slot.the-variants.{Folded, Swept}
 use Rattle.calls.specs.declared.Call.{Call}
 use Rattle.calls.specs.declared.Call.the-variants.{Bind, Pin, Root, Sweep, Fold}
 use Rattle.calls.specs.declared.Place.{Place}
-use Rattle.calls.specs.declared.Place.the-variants.{At, Absent, Swept as Nowhere}
+use Rattle.calls.specs.declared.Place.the-variants.{At, Swept as Nowhere}
 use Rattle.runs.specs.Drawn.{bind, pin, root}
 use Rattle.runs.specs.State.{State, start, closed-fault, no-section, bound-before, full, check, missing, binds-full, roots-full, refusal, moved, unless, step, run, after}
 use Rattle.runs.specs.Promise.{is-sweep, is-fold, some-call}
@@ -169,7 +169,7 @@ module _ (g : Graph) (st : State) (a b : Bool) (i : Invariant g st a b) where
 
 -- binds, pins and roots
 
-passed : (t : Bool) (f : Fault) (later : Option Fault) → check t f later ≡ None → (t ≡ false) × (later ≡ None)
+pub passed : (t : Bool) (f : Fault) (later : Option Fault) → check t f later ≡ None → (t ≡ false) × (later ≡ None)
 passed true f later e =
     let z : _≡_ {A = ℕ} 0 1 = cc in
     absurd (omega arith)
@@ -274,9 +274,11 @@ run-keeps g st a b i (c ∷ cs) =
     (λ e. sym (or-assoc b (is-fold c) (some-call is-fold cs)) ∙ e)
     (run-keeps g (step st c) (a || is-sweep c) (b || is-fold c) (step-keeps g st a b i c) cs)
 
--- after any calls on a new pile
+-- a new pile, and after any calls on it
+
+pub new-keeps : (g : Graph) → Valid g → Invariant g (start g) false false
+new-keeps g v = fresh g g [] 0 false false v refl (λ _. refl) (both-ways false refl) (both-ways false refl)
 
 pub after-keeps :
     (g : Graph) → Valid g → (calls : List Call) → Invariant g (after g calls) (some-call is-sweep calls) (some-call is-fold calls)
-after-keeps g v calls =
-    run-keeps g (start g) false false (fresh g g [] 0 false false v refl (λ _. refl) (both-ways false refl) (both-ways false refl)) calls
+after-keeps g v calls = run-keeps g (start g) false false (new-keeps g v) calls

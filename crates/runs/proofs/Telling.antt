@@ -1,34 +1,30 @@
 -- What a pile tells of its sections after any calls, and what a sweep and a fold do then.
-use Prim.Native.Nat.{ℕ, _+_, _≤_, _<_}
-use native.Mathlib.Omega.{arith}
+use Prim.Native.Nat.{ℕ}
 use mathlib.Core.Path.{_≡_, refl, sym, ap, subst, _∙_}
-use mathlib.Core.Logic.{_↔_, _⊎_, inl, inr, ⊎-elim}
-use mathlib.Core.Bool.{Bool, true, false, _&&_}
+use mathlib.Core.Logic.{inl, inr, ⊎-elim}
+use mathlib.Core.Bool.{Bool}
 use mathlib.Core.List.{List}
-use Rattle.std.specs.declared.result.Result.the-variants.{Ok, Err}
-use Rattle.std.proofs.shelf.Tests.{cases-bool, both-ways, and-parts, and-from}
-use Rattle.model.specs.Graph.{Graph, Present, count-of}
-use Rattle.model.specs.Laws.{Valid}
-use Rattle.unfolding.specs.Groups.{Fold-able, foldable, present, present-count}
-use Rattle.unfolding.specs.Reach.{Reached, reached, swept, dropped}
-use Rattle.unfolding.specs.Sections.{Alike, rules, rep, rounds, folded, merged}
+use Rattle.std.proofs.shelf.Tests.{cases-bool, and-from}
+use Rattle.model.specs.Graph.{Graph, Present}
+use Rattle.unfolding.specs.Groups.{present, present-count}
+use Rattle.unfolding.specs.Reach.{reached, swept, dropped}
+use Rattle.unfolding.specs.Sections.{rules, rep, rounds, folded, merged}
 use Rattle.unfolding.proofs.Rules.{lawful-rules}
 use Rattle.unfolding.proofs.Classes.{rep-alike, rep-foldable, rep-lowest, rep-itself}
 use Rattle.unfolding.proofs.Theorems.{rounds-are-least}
 use Rattle.folding.proofs.Theorems.{sweep-sweeps, fold-folds}
 use Rattle.calls.specs.declared.Slot.{Slot}
 use Rattle.calls.specs.declared.Slot.the-variants.{Swept}
-use Rattle.calls.specs.declared.Call.{Call}
 use Rattle.calls.specs.declared.Call.the-variants.{Sweep, Fold}
 use Rattle.calls.specs.declared.Place.{Place}
-use Rattle.calls.specs.declared.Place.the-variants.{At, Absent, Swept as Nowhere}
-use Rattle.runs.specs.State.{State, no-section, slot-of, step, after, found-at, place-of}
+use Rattle.calls.specs.declared.Place.the-variants.{At, Swept as Nowhere}
+use Rattle.runs.specs.State.{State, slot-of, step, after, found-at}
 use Rattle.runs.specs.Promise.{Placed}
 use Rattle.runs.specs.Laws.{Tells, Pile-tells, Sweep-does, Fold-does, Closes-right}
 use Rattle.runs.proofs.Slots.{fresh-at, found-untouched, next-place}
 use Rattle.runs.proofs.Invariant.{Invariant, present-untouched, drawn-present, ends, ending, found-present}
-use Rattle.runs.proofs.Closing.{next-slots, next-found}
-use Rattle.runs.proofs.Places.{place-present, place-absent, place-beyond, placed-found, nowhere-found, found-placed, found-nowhere}
+use Rattle.runs.proofs.Closing.{next-found}
+use Rattle.runs.proofs.Places.{place-absent, place-beyond, placed-found, nowhere-found, found-placed, found-nowhere}
 use Rattle.runs.proofs.Steps.{swept-fate, own, joined-to, folded-fate, reached-yes, reached-is, swept-present, sweeps-kept, sweeps-gone, folds-rep, after-keeps}
 
 module _ (g : Graph) (st : State) (a b : Bool) (i : Invariant g st a b) where

@@ -3,7 +3,6 @@ use Prim.Native.Nat.{ℕ}
 use mathlib.Core.Bool.{cond}
 use mathlib.Core.List.{[], _∷_, _++_}
 use lib.Dec.{eqb}
-use Rattle.std.specs.declared.option.Option.{Option}
 use Rattle.std.specs.Options.{mapped}
 use Rattle.model.specs.declared.Setting.the-variants.{Pinned}
 use Rattle.model.specs.declared.Target.{Target}

@@ -2,9 +2,8 @@
 use Prim.Native.Nat.{ℕ, suc, _+_, _≤_, _<_}
 use mathlib.Core.Path.{_≡_}
 use mathlib.Core.Logic.{_↔_, _⊎_}
-use mathlib.Core.Bool.{Bool, true, false, _||_, cond}
+use mathlib.Core.Bool.{true, false, _||_}
 use mathlib.Core.List.{List, [], _∷_, _++_}
-use lib.Dec.{eqb}
 use lib.ListN.{length}
 use Rattle.std.specs.declared.option.Option.{Option}
 use Rattle.std.specs.declared.option.Option.the-variants.{None, Some}
@@ -12,7 +11,6 @@ use Rattle.std.specs.declared.result.Result.the-variants.{Ok, Err}
 use Rattle.std.specs.Options.{mapped}
 use Rattle.fault.specs.declared.Fault.{Fault}
 use Rattle.model.specs.declared.Setting.the-variants.{Pinned}
-use Rattle.model.specs.declared.Target.{Target}
 use Rattle.model.specs.declared.Target.the-variants.{Section, Outside}
 use Rattle.model.specs.declared.Relocation.{Relocation}
 use Rattle.model.specs.declared.Record.{Record}
@@ -23,11 +21,10 @@ use Rattle.unfolding.specs.Reach.{Reached}
 use Rattle.unfolding.specs.Sections.{Alike, Stable}
 use Rattle.calls.specs.declared.Call.{Call}
 use Rattle.calls.specs.declared.Call.the-variants.{Bind, Pin, Root, Sweep, Fold}
-use Rattle.calls.specs.declared.Place.the-variants.{At, Absent, Swept as Nowhere}
-use Rattle.calls.specs.declared.Answer.{Answer}
-use Rattle.calls.specs.declared.Answer.the-variants.{Accepted, Refused, Dropped, Merged}
+use Rattle.calls.specs.declared.Place.the-variants.{Absent, Swept as Nowhere}
+use Rattle.calls.specs.declared.Answer.the-variants.{Refused, Dropped, Merged}
 use Rattle.runs.specs.Drawn.{bind, pin, root, drawn-by}
-use Rattle.runs.specs.State.{State, start, step, answer, refusal, run, after, place-of, closed-fault, no-section, bound-before, full}
+use Rattle.runs.specs.State.{State, start, step, answer, refusal, after, place-of, closed-fault, no-section, bound-before, full}
 use Rattle.runs.specs.Promise.{is-sweep, is-fold, some-call, Placed}
 
 -- what binds, pins and roots do to a graph, by the questions

@@ -25,7 +25,7 @@ use Rattle.calls.specs.declared.Place.{Place}
 use Rattle.calls.specs.declared.Place.the-variants.{At, Absent, Swept as Nowhere}
 use Rattle.calls.specs.declared.Answer.{Answer}
 use Rattle.calls.specs.declared.Answer.the-variants.{Accepted, Refused, Dropped, Merged}
-use Rattle.runs.specs.Drawn.{bind, pin, root, drawn-by}
+use Rattle.runs.specs.Drawn.{bind, pin, root}
 
 pub record State : Type 0 where
   -- the drawn graph: the graph below with what was bound, pinned and rooted

@@ -2,6 +2,7 @@
 // (specs/Promise.antt), and laws of it (specs/Laws.antt). A function here has a theorem for its contract, and nothing to do.
 ghost use Rattle.runs.specs.Promise.{Promise-stands};
 ghost use Rattle.runs.specs.Laws.{Draws, Refuses, Run-follows, Pile-tells, Closes-right};
+ghost use Rattle.runs.specs.Seen.{Pile-seen};
 ghost use Rattle.runs.specs.Examples.{Examples-hold};
 
 // The whole promise, for every valid graph and every list of calls: what a fold joins, the roots, that nothing smaller has roots alike,
@@ -36,6 +37,13 @@ pub fn run_follows() -> u8
 // What a pile tells of its sections after any calls.
 pub fn pile_tells() -> u8
     ensures { λ _. ⌜ Pile-tells ⌝ }
+{
+    0
+}
+
+// The pile's graph is the drawn graph seen through the slots.
+pub fn pile_seen() -> u8
+    ensures { λ _. ⌜ Pile-seen ⌝ }
 {
     0
 }
