@@ -4,15 +4,16 @@ use mathlib.Core.Path.{_≡_}
 use mathlib.Core.List.{List, [], _∷_, _++_}
 use lib.ListN.{replicate}
 use lib.IntN.{pos, negsuc}
+use Rattle.std.specs.declared.option.Option.{Option}
 use Rattle.std.specs.declared.option.Option.the-variants.{None}
 use Rattle.std.specs.declared.result.Result.{Result}
 use Rattle.std.specs.declared.result.Result.the-variants.{Ok, Err}
 use Rattle.std.specs.shelf.Lists.{All}
 use Rattle.fault.specs.declared.Fault.{Fault}
-use Rattle.model.specs.Graph.{Graph, empty, count-of}
+use Rattle.model.specs.Graph.{Body, Graph, empty, count-of}
 use Rattle.steps.specs.Below.{table}
 use Rattle.unfolding.specs.Groups.{present-count}
-use Rattle.unfolding.specs.Examples.{plain, calls, names, rootless}
+use Rattle.unfolding.specs.Examples.{plain, calls, names}
 use Rattle.calls.specs.declared.Call.{Call}
 use Rattle.calls.specs.declared.Call.the-variants.{Bind, Pin, Root, Sweep, Fold}
 use Rattle.calls.specs.declared.Place.{Place}
@@ -57,6 +58,10 @@ swept-away = Ok Swept
 
 abbrev pub past : ℕ → Result Place Fault
 past n = Err (no-section n)
+
+-- sections without roots
+abbrev pub rootless : List (Option Body) → Graph
+rootless sections = record { sections = sections; roots = [] }
 
 -- only 1 and 2 present, alike; root 2
 abbrev pub pair : Graph
@@ -143,7 +148,7 @@ examples =
     } ∷
     -- 0 names what 1 calls: apart, unless the name is bound to it
     record {
-      below = rootless (plain (names 7 4 (pos 0)) ∷ plain (calls 2) ∷ plain [] ∷ []);
+      below = rootless (names 0 4 7 (pos 0) ∷ plain (calls 2) ∷ plain [] ∷ []);
       calls = Fold ∷ [];
       outcome =
           record {
@@ -154,7 +159,7 @@ examples =
           };
     } ∷
     record {
-      below = rootless (plain (names 7 4 (pos 0)) ∷ plain (calls 2) ∷ plain [] ∷ []);
+      below = rootless (names 0 4 7 (pos 0) ∷ plain (calls 2) ∷ plain [] ∷ []);
       calls = Bind 7 2 ∷ Fold ∷ [];
       outcome =
           record {
@@ -166,7 +171,7 @@ examples =
     } ∷
     -- bound to a section that is not like it, they stay apart
     record {
-      below = rootless (plain (names 7 4 (pos 0)) ∷ plain (calls 2) ∷ plain [] ∷ []);
+      below = rootless (names 0 4 7 (pos 0) ∷ plain (calls 2) ∷ plain [] ∷ []);
       calls = Bind 7 1 ∷ Fold ∷ [];
       outcome =
           record {
@@ -178,7 +183,7 @@ examples =
     } ∷
     -- the displacement is kept, and keeps them apart
     record {
-      below = rootless (plain (names 7 4 (negsuc 3)) ∷ plain (calls 2) ∷ plain [] ∷ []);
+      below = rootless (names 0 4 7 (negsuc 3) ∷ plain (calls 2) ∷ plain [] ∷ []);
       calls = Bind 7 2 ∷ Fold ∷ [];
       outcome =
           record {
