@@ -1,0 +1,4 @@
+mod Search
+mod Base
+mod Next
+mod Turns
