@@ -1,0 +1,4 @@
+pub mod Binds
+pub mod Drawing
+pub mod Telling
+pub mod Asking
