@@ -191,16 +191,16 @@ pub fn relocation(b: &[u8], x: &Notes, s: u16, j: u16) -> Option<Relocation>
     }
 }
 
-// How many roots there are, of which the first `count` of `found` are noted.
-pub fn root_count(found: &[u16; 1024], count: u16) -> u16
+// How many of `found` are noted, the first `count`.
+fn counted(found: &[u16; 1024], count: u16) -> u16
     requires { ⌜ count ≤ 1024 ⌝ }
     ensures { λ r. ⌜ r ≡ length (take count (now (found .entry))) ⌝ }
 {
     count
 }
 
-// Root `j`.
-pub fn root(found: &[u16; 1024], count: u16, j: u16) -> Option<u16>
+// The `j`th of those.
+fn found_at(found: &[u16; 1024], count: u16, j: u16) -> Option<u16>
     requires { ⌜ count ≤ 1024 ⌝ }
     ensures { λ r. ⌜ r ≡ nth (take count (now (found .entry))) j ⌝ }
 {
@@ -208,4 +208,20 @@ pub fn root(found: &[u16; 1024], count: u16, j: u16) -> Option<u16>
         return None;
     }
     Some(found[j as usize])
+}
+
+// How many roots there are.
+pub fn root_count(b: &[u8], x: &Notes) -> u16
+    requires { ⌜ Kept (now b) (now x) ⌝ }
+    ensures { λ r. ⌜ r ≡ root-count-of (meaning (now (b .entry))) ⌝ }
+{
+    counted(&x.roots, x.count)
+}
+
+// Root `j`.
+pub fn root(b: &[u8], x: &Notes, j: u16) -> Option<u16>
+    requires { ⌜ Kept (now b) (now x) ⌝ }
+    ensures { λ r. ⌜ r ≡ root-of (meaning (now (b .entry))) j ⌝ }
+{
+    found_at(&x.roots, x.count, j)
 }

@@ -42,6 +42,15 @@ impl Object {
         ensures first { λ _. ⌜ Verdict (checks (vec-items file)) ⌝ }
         ensures holds { λ _. ⌜ file-of (now (self .exit)) ≡ after (verdict (vec-items file)) (vec-items file) (file-of (now (self .entry))) ⌝ }
     {
+        self.take(file)
+    }
+
+    // The file is checked first, and nothing is changed before it is accepted.
+    fn take(&mut self, file: Vec<u8>) -> Result<(), Fault>
+        ensures verdict { λ r. ⌜ r ≡ answer (verdict (vec-items file)) tt ⌝ }
+        ensures first { λ _. ⌜ Verdict (checks (vec-items file)) ⌝ }
+        ensures holds { λ _. ⌜ file-of (now (self .exit)) ≡ after (verdict (vec-items file)) (vec-items file) (file-of (now (self .entry))) ⌝ }
+    {
         let notes = examine(file.as_slice())?;
         self.file = file;
         self.notes = notes;
@@ -72,10 +81,10 @@ pub impl SectionGraph for Object as ObjectGraph {
     }
 
     fn root_count(&self) -> u16 {
-        view::root_count(&self.notes.roots, self.notes.count)
+        view::root_count(self.file.as_slice(), &self.notes)
     }
 
     fn root(&self, j: u16) -> Option<u16> {
-        view::root(&self.notes.roots, self.notes.count, j)
+        view::root(self.file.as_slice(), &self.notes, j)
     }
 }

@@ -22,5 +22,7 @@ use Rattle.object.proofs.Holding.{kept-of}
 use Rattle.std.specs.Finite.{nth}
 use Rattle.object.proofs.held.calls.ObjectGraph.root.Needs as need
 
-pub returns : need.returns
-returns c = c .root .ensures ∙ ap (λ (xs : List ℕ). nth xs (c .args .j)) (c .args .self .now .rooted)
+pub root-requires : need.root-requires
+root-requires c κs =
+    let x = c .args .self .now
+    in subst (λ (b : List ℕ). Kept b (x .notes)) (sym (c .as-slice .ensures .value)) (kept-of x)

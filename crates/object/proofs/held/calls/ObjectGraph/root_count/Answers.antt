@@ -21,5 +21,7 @@ use Rattle.object.specs.Held.{held, Kept}
 use Rattle.object.proofs.Holding.{kept-of}
 use Rattle.object.proofs.held.calls.ObjectGraph.root_count.Needs as need
 
-pub returns : need.returns
-returns c = c .root-count .ensures ∙ ap length (c .args .self .now .rooted)
+pub root-count-requires : need.root-count-requires
+root-count-requires c κs =
+    let x = c .args .self .now
+    in subst (λ (b : List ℕ). Kept b (x .notes)) (sym (c .as-slice .ensures .value)) (kept-of x)

@@ -26,7 +26,7 @@ use Rattle.rules.specs.Known.{Ends}
 use Rattle.rules.specs.Verdict.{checks}
 use Rattle.object.specs.Reader.{after}
 use Rattle.object.proofs.Holding.{kept-from, read-held}
-use Rattle.object.proofs.held.Object.read.Needs as need
+use Rattle.object.proofs.held.Object.take.Needs as need
 
 pub returns-in-Break-notes : need.returns-in-Break-notes
 returns-in-Break-notes c =
