@@ -3,15 +3,9 @@ use Prim.Native.Nat.{ℕ, suc}
 use mathlib.Core.Path.{_≡_}
 use mathlib.Core.List.{List, [], _∷_, _++_}
 use lib.ListN.{replicate}
-<<<<<<< HEAD
 use lib.IntN.{ℤ, pos, negsuc}
 use Rattle.std.specs.declared.option.Option.{Option}
 use Rattle.std.specs.declared.option.Option.the-variants.{None, Some}
-=======
-use lib.IntN.{pos, negsuc}
-use Rattle.std.specs.declared.option.Option.{Option}
-use Rattle.std.specs.declared.option.Option.the-variants.{None}
->>>>>>> pile
 use Rattle.std.specs.declared.result.Result.{Result}
 use Rattle.std.specs.declared.result.Result.the-variants.{Ok, Err}
 use Rattle.std.specs.shelf.Lists.{All}
@@ -19,14 +13,10 @@ use Rattle.fault.specs.declared.Fault.{Fault}
 use Rattle.model.specs.Graph.{Body, Graph, empty, count-of}
 use Rattle.steps.specs.Below.{table}
 use Rattle.unfolding.specs.Groups.{present-count}
-<<<<<<< HEAD
 use Rattle.model.specs.declared.Setting.the-variants.{Foldable}
 use Rattle.model.specs.declared.Target.{Target}
 use Rattle.model.specs.declared.Target.the-variants.{Section, Outside}
 use Rattle.model.specs.declared.Relocation.{Relocation}
-=======
-use Rattle.unfolding.specs.Examples.{plain, calls, names}
->>>>>>> pile
 use Rattle.calls.specs.declared.Call.{Call}
 use Rattle.calls.specs.declared.Call.the-variants.{Bind, Pin, Root, Sweep, Fold}
 use Rattle.calls.specs.declared.Place.{Place}
@@ -72,7 +62,6 @@ swept-away = Ok Swept
 abbrev pub past : ℕ → Result Place Fault
 past n = Err (no-section n)
 
-<<<<<<< HEAD
 -- a foldable section of one byte, one that differs in the byte, and a relocation to a section or an outside name
 
 abbrev pub of-byte : ℕ → List Relocation → Option Body
@@ -97,11 +86,6 @@ names e d = aiming (Outside e) d
 -- a graph without roots
 abbrev pub unrooted : List (Option Body) → Graph
 unrooted sections = record { sections = sections; roots = [] }
-=======
--- sections without roots
-abbrev pub rootless : List (Option Body) → Graph
-rootless sections = record { sections = sections; roots = [] }
->>>>>>> pile
 
 -- only 1 and 2 present, alike; root 2
 abbrev pub pair : Graph
@@ -200,11 +184,7 @@ examples =
     } ∷
     -- 0 names what 1 calls: apart, unless the name is bound to it
     record {
-<<<<<<< HEAD
       below = unrooted (plain (names 7 (pos 0)) ∷ plain (calls 2) ∷ plain [] ∷ []);
-=======
-      below = rootless (names 0 4 7 (pos 0) ∷ plain (calls 2) ∷ plain [] ∷ []);
->>>>>>> pile
       calls = Fold ∷ [];
       outcome =
           record {
@@ -215,11 +195,7 @@ examples =
           };
     } ∷
     record {
-<<<<<<< HEAD
       below = unrooted (plain (names 7 (pos 0)) ∷ plain (calls 2) ∷ plain [] ∷ []);
-=======
-      below = rootless (names 0 4 7 (pos 0) ∷ plain (calls 2) ∷ plain [] ∷ []);
->>>>>>> pile
       calls = Bind 7 2 ∷ Fold ∷ [];
       outcome =
           record {
@@ -231,11 +207,7 @@ examples =
     } ∷
     -- bound to a section that is not like it, they stay apart
     record {
-<<<<<<< HEAD
       below = unrooted (plain (names 7 (pos 0)) ∷ plain (calls 2) ∷ plain [] ∷ []);
-=======
-      below = rootless (names 0 4 7 (pos 0) ∷ plain (calls 2) ∷ plain [] ∷ []);
->>>>>>> pile
       calls = Bind 7 1 ∷ Fold ∷ [];
       outcome =
           record {
@@ -247,11 +219,7 @@ examples =
     } ∷
     -- the displacement is kept, and keeps them apart
     record {
-<<<<<<< HEAD
       below = unrooted (plain (names 7 (negsuc 3)) ∷ plain (calls 2) ∷ plain [] ∷ []);
-=======
-      below = rootless (names 0 4 7 (negsuc 3) ∷ plain (calls 2) ∷ plain [] ∷ []);
->>>>>>> pile
       calls = Bind 7 2 ∷ Fold ∷ [];
       outcome =
           record {
