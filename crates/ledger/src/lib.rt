@@ -222,7 +222,11 @@ impl Ledger {
         if !self.slots.is_untouched(s) {
             return None;
         }
-        if self.is_pinned(s) { as_pinned(told) } else { told }
+        if self.is_pinned(s) {
+            as_pinned(told)
+        } else {
+            told
+        }
     }
 
     // A byte of section `s`.
@@ -230,7 +234,11 @@ impl Ledger {
         requires { ⌜ Bounds (now self) ⌝ }
         ensures { λ r. ⌜ r ≡ seen-byte (now (self .entry)) s told ⌝ }
     {
-        if self.slots.is_untouched(s) { told } else { None }
+        if self.slots.is_untouched(s) {
+            told
+        } else {
+            None
+        }
     }
 
     // A relocation of section `s`.
@@ -266,13 +274,7 @@ impl Ledger {
     {
         match told {
             Some(s) => Some(self.slots.number(s)),
-            None => {
-                if n <= j {
-                    self.added_root(j - n)
-                } else {
-                    None
-                }
-            }
+            None => { if n <= j { self.added_root(j - n) } else { None } }
         }
     }
 

@@ -211,7 +211,8 @@ impl<G: SectionGraph> Pile<G> {
         requires { ⌜ Sound (G·SectionGraph .sound (now self .below)) (G·SectionGraph .graph (now self .below)) (now self .table) ⌝ }
         ensures { λ r. ⌜ Checked (G·SectionGraph .graph (now (self .entry) .below)) (now (self .entry) .table) (Root section) r ⌝ }
     {
-        match self.table.root_refusal(self.has(section), self.below.root_count(), section) {
+        match self.table
+            .root_refusal(self.has(section), self.below.root_count(), section) {
             Some(fault) => Err(fault),
             None => Ok(()),
         }
@@ -332,7 +333,13 @@ impl<G: SectionGraph> Pile<G> {
     }
 
     // The same by classes; `depth` is the rounds.
-    fn join_groups(&mut self, there: &[bool; 1024], class: &[u16; 1024], n: u16, depth: u16) -> (u16, u16)
+    fn join_groups(
+        &mut self,
+        there: &[bool; 1024],
+        class: &[u16; 1024],
+        n: u16,
+        depth: u16,
+    ) -> (u16, u16)
         requires sound { ⌜ Sound (G·SectionGraph .sound (now self .below)) (G·SectionGraph .graph (now self .below)) (now self .table) ⌝ }
         requires there { ⌜ now there ≡ listed (present (told (G·SectionGraph .graph (now self .below)) (now self .table) .graph)) 1024 ⌝ }
         requires class { ⌜ now class ≡ listed (rep (told (G·SectionGraph .graph (now self .below)) (now self .table) .graph)) 1024 ⌝ }

@@ -19,7 +19,12 @@ use table::Table;
 use table::TableGraph;
 
 // One call, told with what it answered.
-fn tell<G: SectionGraph>(rt: &LibcRuntime, options: &Options, pile: &mut Pile<G>, call: Call) -> Result<(), AnyError>
+fn tell<G: SectionGraph>(
+    rt: &LibcRuntime,
+    options: &Options,
+    pile: &mut Pile<G>,
+    call: Call,
+) -> Result<(), AnyError>
     requires { ⌜ Sound (G·SectionGraph .sound (now pile .below)) (G·SectionGraph .graph (now pile .below)) (now pile .table) ⌝ }
     ensures { λ _. ⌜ Sound (G·SectionGraph .sound (now (pile .exit) .below)) (G·SectionGraph .graph (now (pile .exit) .below)) (now (pile .exit) .table) ⌝ }
 {
@@ -29,7 +34,11 @@ fn tell<G: SectionGraph>(rt: &LibcRuntime, options: &Options, pile: &mut Pile<G>
 }
 
 // The calls in order.
-fn tell_all<G: SectionGraph>(rt: &LibcRuntime, options: &Options, pile: &mut Pile<G>) -> Result<(), AnyError>
+fn tell_all<G: SectionGraph>(
+    rt: &LibcRuntime,
+    options: &Options,
+    pile: &mut Pile<G>,
+) -> Result<(), AnyError>
     requires { ⌜ Sound (G·SectionGraph .sound (now pile .below)) (G·SectionGraph .graph (now pile .below)) (now pile .table) ⌝ }
     ensures { λ _. ⌜ Sound (G·SectionGraph .sound (now (pile .exit) .below)) (G·SectionGraph .graph (now (pile .exit) .below)) (now (pile .exit) .table) ⌝ }
 {
@@ -40,7 +49,11 @@ fn tell_all<G: SectionGraph>(rt: &LibcRuntime, options: &Options, pile: &mut Pil
     tell(rt, options, pile, Call::Fold)
 }
 
-fn fold_graph<G: SectionGraph + Drop>(rt: &LibcRuntime, options: &Options, graph: G) -> Result<(), AnyError>
+fn fold_graph<G: SectionGraph + Drop>(
+    rt: &LibcRuntime,
+    options: &Options,
+    graph: G,
+) -> Result<(), AnyError>
     requires { ⌜ G·SectionGraph .sound graph ⌝ }
 {
     let mut pile = Pile::new(graph);

@@ -50,7 +50,11 @@ fn root_of(word: &str) -> Option<Call> {
 
 pub fn read_options(heap: Global, words: Args<Global>) -> Result<Options, AnyError> {
     let mut words = words;
-    let mut options = Options { file: None, table: None, calls: Vec::new(heap) };
+    let mut options = Options {
+        file: None,
+        table: None,
+        calls: Vec::new(heap),
+    };
     for _ in 0..1000u16 {
         let Some(word) = words.next() else {
             return Ok(options);

@@ -28,7 +28,11 @@ fn send(rt: &LibcRuntime, options: &Options, text: &[u8]) -> Result<(), AnyError
 }
 
 // The table of a section graph goes out, and what it holds is said.
-pub fn write_out<G: SectionGraph>(rt: &LibcRuntime, graph: &G, options: &Options) -> Result<(), AnyError>
+pub fn write_out<G: SectionGraph>(
+    rt: &LibcRuntime,
+    graph: &G,
+    options: &Options,
+) -> Result<(), AnyError>
     requires { ⌜ G·SectionGraph .sound (now graph) ⌝ }
 {
     let said = describe(rt.alloc(), graph)?;

@@ -27,7 +27,11 @@ fn answer_words(heap: Global, answer: &Answer) -> Result<String, AllocError> {
         Answer::Accepted => format!(heap, "ok"),
         Answer::Refused(fault) => fault_words(heap, fault),
         Answer::Dropped { present, dropped } => format!(heap, "{present} {dropped}"),
-        Answer::Merged { present, merged, rounds } => format!(heap, "{present} {merged} {rounds}"),
+        Answer::Merged {
+            present,
+            merged,
+            rounds,
+        } => format!(heap, "{present} {merged} {rounds}"),
     }
 }
 

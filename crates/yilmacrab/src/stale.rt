@@ -1,11 +1,12 @@
 // A warning for objects whose address-significance list may be stale. strip, objcopy and ld -r copy that list and leave its
 // numbers as they were, but not its link to the symbol table. Whether the object is accepted does not hang on it.
 use field::half;
-use field::word;
 use field::long;
+use field::word;
 use std::io;
 
 const SIGNIFICANT: u32 = 0x6fff4c03;
+
 const SYMBOLS: u32 = 2;
 
 // A field at `place` of section header `i`; none where it runs past the end.
@@ -41,7 +42,10 @@ fn is_stale(file: &[u8]) -> bool {
 
 pub fn warn(rt: &LibcRuntime, file: &[u8]) -> io::Result<()> {
     if is_stale(file) {
-        eprintln!(rt, "yilmacrab: warning: the address-significance list is not linked to the symbol table and may be stale")?;
+        eprintln!(
+            rt,
+            "yilmacrab: warning: the address-significance list is not linked to the symbol table and may be stale"
+        )?;
     }
     Ok(())
 }

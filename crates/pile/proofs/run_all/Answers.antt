@@ -21,8 +21,7 @@ loop-call-again g c =
     let i = c .loop-call .call-index in
     let xs = c .args .calls .now in
     let old = c .loop-call .pile in
-    let new = c .apply .last .self in
-    (
+    let new = c .apply .last .self in (
       c .apply .ensures .sound,
       c .apply .ensures .over ∙ c .loop-call .inv .1,
       subst

@@ -24,8 +24,7 @@ loop-s-again g c =
     let lt : s < length (c .loop-s .there) = omega (arith, c .loop-s .inv .0) in
     let here : c .is-some .result ≡ present (told x t .graph) s =
     c .is-some .ensures ∙
-    (ap (λ (o : Option Record). isSome o) (c .record-of .ensures) ∙ some-record (section-of (told x t .graph) s)) in
-    (
+    (ap (λ (o : Option Record). isSome o) (c .record-of .ensures) ∙ some-record (section-of (told x t .graph) s)) in (
       length-set (c .loop-s .there) s (c .is-some .result) ∙ c .loop-s .inv .0,
       below-more _ _
           (λ k h.
