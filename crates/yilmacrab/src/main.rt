@@ -1,14 +1,11 @@
 // The command line: reads objects and section tables, says what they hold, and writes tables.
 mod check;
-mod fold;
 mod graphs;
 mod options;
 mod output;
 mod refusal;
-mod said;
 mod stale;
 mod table_of;
-mod words;
 
 use options::Options;
 use options::read_options;
@@ -17,14 +14,10 @@ use std::error::AnyError;
 
 const HELP: &str = "usage: yilmacrab check [FILE]
        yilmacrab table [FILE] [-o TABLE]
-       yilmacrab fold [FILE] [--bind NAME=SECTION].. [--pin SECTION]..
-                 [--root SECTION].. [-o TABLE]
 
   check   read an ELF64 object or a section table and say what it holds; a table
           is written again and compared
   table   read an ELF64 object or a section table and write its section table
-  fold    the same after the binds, pins and roots in the order given, a sweep
-          and a fold; says what each answered
   --help  print this
 
 A file is an object if its first byte is 7F hexadecimal, else a table; without
@@ -43,7 +36,6 @@ fn perform(rt: &LibcRuntime, command: &str, options: Options) -> Result<(), AnyE
     match command {
         "check" => check::check(rt, options),
         "table" => table_of::table(rt, options),
-        "fold" => fold::fold(rt, options),
         "--help" | "-h" | "help" => help(rt),
         _ => Err("no such command; yilmacrab --help lists them".into()),
     }
@@ -54,7 +46,7 @@ fn run(rt: &LibcRuntime) -> Result<(), AnyError> {
     let _program = words.next();
     match words.next() {
         None => help(rt),
-        Some(command) => perform(rt, command.as_str(), read_options(rt.alloc(), words)?),
+        Some(command) => perform(rt, command.as_str(), read_options(words)?),
     }
 }
 

@@ -1,7 +1,4 @@
 // The words after a command.
-use crate::words::bind_of;
-use crate::words::number;
-use calls::Call;
 use std::alloc::Global;
 use std::env::Args;
 use std::error::AnyError;
@@ -10,69 +7,29 @@ use std::error::AnyError;
 pub struct Options {
     // the file that is read; without one, standard input
     pub file: Option<String>,
-    // the file that the table is written to
-    pub table: Option<String>,
-    // the calls that were asked for, in order
-    pub calls: Vec<Call>,
+    // the file that the table is written to; without one, standard output
+    pub output: Option<String>,
 }
 
-// The word that has to follow an option.
-fn following(words: &mut Args<Global>) -> Result<String, AnyError> {
-    match words.next() {
-        Some(word) => Ok(word),
-        None => Err("an option's value is missing".into()),
-    }
-}
-
-fn add(calls: &mut Vec<Call>, call: Option<Call>) -> Result<(), AnyError> {
-    match call {
-        Some(call) => {
-            calls.push(call)?;
-            Ok(())
-        }
-        None => Err("an option's value has another form; yilmacrab --help has it".into()),
-    }
-}
-
-fn pin_of(word: &str) -> Option<Call> {
-    match number(word) {
-        Some(section) => Some(Call::Pin { section }),
-        None => None,
-    }
-}
-
-fn root_of(word: &str) -> Option<Call> {
-    match number(word) {
-        Some(section) => Some(Call::Root { section }),
-        None => None,
-    }
-}
-
-pub fn read_options(heap: Global, words: Args<Global>) -> Result<Options, AnyError> {
+pub fn read_options(words: Args<Global>) -> Result<Options, AnyError> {
     let mut words = words;
-    let mut options = Options {
-        file: None,
-        table: None,
-        calls: Vec::new(heap),
-    };
-    for _ in 0..1000u16 {
+    let mut file = None;
+    let mut output = None;
+    for _ in 0..64u8 {
         let Some(word) = words.next() else {
-            return Ok(options);
+            return Ok(Options { file, output });
         };
-        match word.as_str() {
-            "-o" => options.table = Some(following(&mut words)?),
-            "--bind" => add(&mut options.calls, bind_of(following(&mut words)?.as_str()))?,
-            "--pin" => add(&mut options.calls, pin_of(following(&mut words)?.as_str()))?,
-            "--root" => add(&mut options.calls, root_of(following(&mut words)?.as_str()))?,
-            other => {
-                if other.starts_with('-') {
-                    return Err("no such option; yilmacrab --help lists them".into());
-                }
-                if options.file.is_some() {
-                    return Err("only one file can be read".into());
-                }
-                options.file = Some(word);
-            }
+        if word.as_str() == "-o" {
+            let Some(path) = words.next() else {
+                return Err("a file name has to follow -o".into());
+            };
+            output = Some(path);
+        } else if word.as_str().starts_with('-') {
+            return Err("no such option; yilmacrab --help lists them".into());
+        } else if file.is_some() {
+            return Err("only one file can be read".into());
+        } else {
+            file = Some(word);
         }
     }
     Err("too many words".into())

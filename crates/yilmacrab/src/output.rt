@@ -3,26 +3,24 @@ use crate::graphs::describe;
 use crate::options::Options;
 use crate::refusal::refuse;
 use graph::SectionGraph;
+use std::alloc::AllocError;
+use std::alloc::Global;
 use std::error::AnyError;
 use std::fs;
 use std::io::Write;
 use table_writer::table_length;
 use table_writer::write_table;
 
-// A line for people: on standard output, or on standard error where the table goes there.
-pub fn say(rt: &LibcRuntime, options: &Options, said: &str) -> Result<(), AnyError> {
-    if options.table.is_some() {
-        println!(rt, "{said}")?;
-    } else {
-        eprintln!(rt, "{said}")?;
-    }
-    Ok(())
-}
-
-fn send(rt: &LibcRuntime, options: &Options, text: &[u8]) -> Result<(), AnyError> {
-    match &options.table {
-        Some(path) => fs::write(rt, path.as_str(), text)?,
-        None => rt.stdout().write_all(text)?,
+fn send(rt: &LibcRuntime, options: &Options, text: &[u8], said: &str) -> Result<(), AnyError> {
+    match &options.output {
+        Some(path) => {
+            fs::write(rt, path.as_str(), text)?;
+            println!(rt, "{said}")?;
+        }
+        None => {
+            rt.stdout().write_all(text)?;
+            eprintln!(rt, "{said}")?;
+        }
     }
     Ok(())
 }
@@ -38,10 +36,7 @@ pub fn write_out<G: SectionGraph>(
     let said = describe(rt.alloc(), graph)?;
     let mut text = vec![in rt.alloc(); 0u8; table_length(graph)]?;
     match write_table(graph, text.as_mut_slice()) {
-        Ok(_) => {
-            send(rt, options, text.as_slice())?;
-            say(rt, options, said.as_str())
-        }
+        Ok(_) => send(rt, options, text.as_slice(), said.as_str()),
         Err(fault) => refuse(rt, fault),
     }
 }
