@@ -1,4 +1,13 @@
 // A section table swept and folded: what is printed of it.
+ghost use mathlib.Core.Path.{_≡_};
+ghost use mathlib.Core.Bool.{true, false};
+ghost use lib.ListN.{length};
+ghost use Rattle.std.specs.Of.Vec.{vec-items};
+ghost use Rattle.std.specs.Vec.{made};
+ghost use Rattle.row_writer.specs.Writing.{fault-row};
+ghost use Rattle.layout.specs.Layout.{text-of};
+ghost use Rattle.table.specs.Meaning.{graph-held};
+ghost use Rattle.refolding.specs.Printed.{too-long, refolded, printed, is-refused};
 use calls::Call;
 use fault::Fault;
 use fault::Kind;
@@ -22,7 +31,9 @@ pub struct Output {
 }
 
 // The refusal of a text that is too long.
-fn too_long() -> Fault {
+fn too_long() -> Fault
+    ensures { λ r. ⌜ r ≡ too-long ⌝ }
+{
     Fault {
         kind: Kind::Oversize,
         place: 65536,
@@ -31,7 +42,9 @@ fn too_long() -> Fault {
 }
 
 // How long the row of a refusal is: a buffer with no room is refused with the length needed.
-fn row_length(fault: &Fault) -> usize {
+fn row_length(fault: &Fault) -> usize
+    ensures { λ r. ⌜ r ≡ length (fault-row (now (fault .entry))) ⌝ }
+{
     match write_fault(fault, &mut []) {
         Ok(length) => length,
         Err(small) => small.place as usize,
@@ -39,7 +52,9 @@ fn row_length(fault: &Fault) -> usize {
 }
 
 // The row of a refusal.
-fn fault_text(heap: Global, fault: &Fault) -> Result<Vec<u8>, AllocError> {
+fn fault_text(heap: Global, fault: &Fault) -> Result<Vec<u8>, AllocError>
+    ensures { λ r. ⌜ made r (λ v. vec-items v ≡ fault-row (now (fault .entry))) ⌝ }
+{
     let mut text = vec![in heap; 0u8; row_length(fault)]?;
     let _ = write_fault(fault, text.as_mut_slice());
     Ok(text)
@@ -48,6 +63,7 @@ fn fault_text(heap: Global, fault: &Fault) -> Result<Vec<u8>, AllocError> {
 // The table of a section graph.
 fn table_text<G: SectionGraph>(heap: Global, graph: &G) -> Result<Vec<u8>, AllocError>
     requires { ⌜ G·SectionGraph .sound (now graph) ⌝ }
+    ensures { λ r. ⌜ made r (λ v. vec-items v ≡ text-of (G·SectionGraph .graph (now (graph .entry)))) ⌝ }
 {
     let mut text = vec![in heap; 0u8; table_length(graph)]?;
     let _ = write_table(graph, text.as_mut_slice());
@@ -55,7 +71,9 @@ fn table_text<G: SectionGraph>(heap: Global, graph: &G) -> Result<Vec<u8>, Alloc
 }
 
 // What is printed of a refusal.
-fn refusal(heap: Global, fault: &Fault) -> Result<Output, AllocError> {
+fn refusal(heap: Global, fault: &Fault) -> Result<Output, AllocError>
+    ensures { λ r. ⌜ made r (λ o. (vec-items (o .text) ≡ fault-row (now (fault .entry))) × (o .refused ≡ true)) ⌝ }
+{
     let text = fault_text(heap, fault)?;
     Ok(Output {
         text,
@@ -64,7 +82,9 @@ fn refusal(heap: Global, fault: &Fault) -> Result<Output, AllocError> {
 }
 
 // What is printed of a table that was read.
-fn accepted(heap: Global, table: Table) -> Result<Output, AllocError> {
+fn accepted(heap: Global, table: Table) -> Result<Output, AllocError>
+    ensures { λ r. ⌜ made r (λ o. (vec-items (o .text) ≡ text-of (refolded (graph-held table))) × (o .refused ≡ false)) ⌝ }
+{
     let pile = run(table, &[Call::Sweep, Call::Fold]);
     let text = table_text(heap, &pile)?;
     Ok(Output {
@@ -74,7 +94,9 @@ fn accepted(heap: Global, table: Table) -> Result<Output, AllocError> {
 }
 
 // Reads a text of at most 65,536 bytes as a section table, sweeps and folds it, and answers its table, or the row of the refusal.
-pub fn refold(heap: Global, text: Vec<u8>) -> Result<Output, AllocError> {
+pub fn refold(heap: Global, text: Vec<u8>) -> Result<Output, AllocError>
+    ensures { λ r. ⌜ made r (λ o. (vec-items (o .text) ≡ printed (vec-items text)) × (o .refused ≡ is-refused (vec-items text))) ⌝ }
+{
     if text.len() > 65536 {
         return refusal(heap, &too_long());
     }
