@@ -3,8 +3,8 @@ use Rattle.std.proofs.lemmas.Fmt.{decimal_digit, length-decimal-le}
 use Rattle.column.proofs.Writing.{length_step}
 use Rattle.column.proofs.digits.Goals as goal
 
-pub overflow-add-count : goal.overflow-add-count
-overflow-add-count c = omega (arith, length-decimal-le 20 c.args.value (omega arith) (omega arith) (omega arith))
+pub overflow_add-count : goal.overflow_add-count
+overflow_add-count c = omega (arith, length-decimal-le 20 c.args.value (omega arith) (omega arith) (omega arith))
 
 pub loop-left-preserved : goal.loop-left-preserved
 loop-left-preserved c = (omega arith, omega (arith, length_step c.loop-left.left (omega arith) (omega arith)))

@@ -4,9 +4,9 @@ use Rattle.column.proofs.fill_negative.Goals as goal
 
 pub returns : goal.returns
 returns c =
-    filled_minus c.args.out.now (decimal c.args.size) c.put-digits-start.new.out c.put-blanks.new.out
-    c.put-digits-start.result
-    c.put-digits-start.ensures.begins
+    filled_minus c.args.out.now (decimal c.args.size) c.put_digits-start.new.out c.put_blanks.new.out
+    c.put_digits-start.result
+    c.put_digits-start.ensures.begins
     c.requires
-    c.put-digits-start.ensures.holds
-    c.put-blanks.ensures
+    c.put_digits-start.ensures.holds
+    c.put_blanks.ensures

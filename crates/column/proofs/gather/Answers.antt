@@ -14,11 +14,11 @@ returns-then-d-lt48 c =
       small = tt;
     }
 
-pub overflow-mul-sum : goal.overflow-mul-sum
-overflow-mul-sum c = omega (arith, c.loop-d.invariant.0, powers c.loop-d.d-index 17 (omega arith))
+pub overflow_mul-sum : goal.overflow_mul-sum
+overflow_mul-sum c = omega (arith, c.loop-d.invariant.0, powers c.loop-d.d-index 17 (omega arith))
 
-pub overflow-add-sum : goal.overflow-add-sum
-overflow-add-sum c = omega (arith, c.loop-d.invariant.0, powers c.loop-d.d-index 17 (omega arith))
+pub overflow_add-sum : goal.overflow_add-sum
+overflow_add-sum c = omega (arith, c.loop-d.invariant.0, powers c.loop-d.d-index 17 (omega arith))
 
 pub loop-d-preserved : goal.loop-d-preserved
 loop-d-preserved c = (

@@ -25,8 +25,8 @@ at_last c =
     c.loop-left.invariant.2
     (omega arith)
 
-pub overflow-sub-at : goal.overflow-sub-at
-overflow-sub-at c = in-turn c
+pub overflow_sub-at : goal.overflow_sub-at
+overflow_sub-at c = in-turn c
 
 pub bounds-out-at : goal.bounds-out-at
 bounds-out-at c = omega (arith, in-turn c)
@@ -42,8 +42,8 @@ loop-left-preserved c = (
   rest_kept c.args.out.now c.loop-left.out c.loop-left.at _ _ (omega arith) c.loop-left.invariant.3,
 )
 
-pub overflow-sub-at-2 : goal.overflow-sub-at-2
-overflow-sub-at-2 c = at_last c
+pub overflow_sub-at-2 : goal.overflow_sub-at-2
+overflow_sub-at-2 c = at_last c
 
 pub bounds-out-at-2 : goal.bounds-out-at-2
 bounds-out-at-2 c = omega (arith, at_last c)

@@ -5,6 +5,6 @@ use Rattle.column.proofs.read_short.Goals as goal
 
 pub returns : goal.returns
 returns c =
-    c.read-number.ensures
+    c.read_number.ensures
     ∙ ap number (take_rest c.args.text.now c.blanks-start.result)
     ∙ sym c.blanks-start.ensures.passed

@@ -12,7 +12,7 @@ loop-j-preserved g c =
     let j = c.loop-j.j in
     elim c.match-relocation.branch [
       | in-Some w ↦
-          ap (λ (h : ℕ). mixed_arms h (map bare (drop (j + 1) (relocations_in o)))) (w.digest-is ∙ w.mix-link-digest.ensures) ∙
+          ap (λ (h : ℕ). mixed_arms h (map bare (drop (j + 1) (relocations_in o)))) (w.digest-is ∙ w.mix_link-digest.ensures) ∙
           (digest_some o c.loop-j.digest j w.in-Some.r (sym c.relocation.ensures ∙ w.in-Some.is) ∙ c.loop-j.invariant)
       | in-default w ↦
           ap (λ (h : ℕ). mixed_arms h (map bare (drop (j + 1) (relocations_in o)))) w.digest-is ∙
@@ -22,6 +22,6 @@ loop-j-preserved g c =
 pub returns : goal.returns
 returns g c =
     let o = section_of (g.G.SectionGraph.graph c.args.graph.now) c.args.s in
-    let count = c.count-told-j-end.ensures ∙ ap told_count c.record-of-told.ensures in
+    let count = c.count_told-j-end.ensures ∙ ap told_count c.record_of-told.ensures in
     let past : told_count (told_record o) ≤ c.loop-j.j = omega arith in
     sym (digest_end o c.loop-j.digest c.loop-j.j past) ∙ c.loop-j.invariant

@@ -11,8 +11,8 @@ returns g c =
     let o = section_of x c.args.s in
     let p = section_of x c.args.t in
     let face =
-    sym c.if-not-same-face.false ∙
+    sym c.if-not-same_face.false ∙
     (c.same_face.ensures ∙
-    (ap (λ (a : Option Record). same_told_face a c.record-of-2.result) c.record-of.ensures ∙
-    ap (λ (b : Option Record). same_told_face (told_record o) b) c.record-of-2.ensures)) in
-    core_parts o p true true c.same-bytes.result face (sym c.if-not-same-links.false ∙ c.same-links.ensures) c.same-bytes.ensures
+    (ap (λ (a : Option Record). same_told_face a c.record_of-2.result) c.record_of.ensures ∙
+    ap (λ (b : Option Record). same_told_face (told_record o) b) c.record_of-2.ensures)) in
+    core_parts o p true true c.same_bytes.result face (sym c.if-not-same_links.false ∙ c.same_links.ensures) c.same_bytes.ensures

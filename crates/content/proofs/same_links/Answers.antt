@@ -5,28 +5,28 @@ use Rattle.content.specs.Core.{told_count, same_bare, both_told}
 use Rattle.content.proofs.Tested.{test_counts, test_next, test_fails, test_ends}
 use Rattle.content.proofs.same_links.Goals as goal
 
-pub returns-then-links-count-told : goal.returns-then-links-count-told
-returns-then-links-count-told g c =
+pub returns-then-links-count_told : goal.returns-then-links-count_told
+returns-then-links-count_told g c =
     let x = g.G.SectionGraph.graph c.args.graph.now in
-    let count = c.count-told-links.ensures ∙ ap told_count c.record-of.ensures in
-    let other = c.count-told.ensures ∙ ap told_count c.record-of-2.ensures in
+    let count = c.count_told-links.ensures ∙ ap told_count c.record_of.ensures in
+    let other = c.count_told.ensures ∙ ap told_count c.record_of-2.ensures in
     test_counts
     same_bare
     (section_of x c.args.s)
     (section_of x c.args.t)
-    (λ e. c.if-links-count-told.true (count ∙ (e ∙ sym other)))
+    (λ e. c.if-links-count_told.true (count ∙ (e ∙ sym other)))
 
-pub returns-then-not-same-link-told : goal.returns-then-not-same-link-told
-returns-then-not-same-link-told g c =
+pub returns-then-not-same_link_told : goal.returns-then-not-same_link_told
+returns-then-not-same_link_told g c =
     let x = g.G.SectionGraph.graph c.args.graph.now in
     let o = section_of x c.args.s in
     let p = section_of x c.args.t in
     let j = c.loop-j.j in
     let asked =
-    c.same-link-told.ensures ∙
-    (ap (λ (a : Option Relocation). both_told same_bare a c.relocation-in-loop-j.result) c.relocation.ensures ∙
-    ap (λ (b : Option Relocation). both_told same_bare (told_relocation o j) b) c.relocation-in-loop-j.ensures) in
-    test_fails same_bare o p j (sym asked ∙ c.if-not-same-link-told.true) c.loop-j.invariant
+    c.same_link_told.ensures ∙
+    (ap (λ (a : Option Relocation). both_told same_bare a c.relocation_in-loop-j.result) c.relocation.ensures ∙
+    ap (λ (b : Option Relocation). both_told same_bare (told_relocation o j) b) c.relocation_in-loop-j.ensures) in
+    test_fails same_bare o p j (sym asked ∙ c.if-not-same_link_told.true) c.loop-j.invariant
 
 pub loop-j-preserved : goal.loop-j-preserved
 loop-j-preserved g c =
@@ -35,16 +35,16 @@ loop-j-preserved g c =
     let p = section_of x c.args.t in
     let j = c.loop-j.j in
     let asked =
-    c.same-link-told.ensures ∙
-    (ap (λ (a : Option Relocation). both_told same_bare a c.relocation-in-loop-j.result) c.relocation.ensures ∙
-    ap (λ (b : Option Relocation). both_told same_bare (told_relocation o j) b) c.relocation-in-loop-j.ensures) in
-    test_next same_bare o p j (sym asked ∙ c.if-not-same-link-told.false) c.loop-j.invariant
+    c.same_link_told.ensures ∙
+    (ap (λ (a : Option Relocation). both_told same_bare a c.relocation_in-loop-j.result) c.relocation.ensures ∙
+    ap (λ (b : Option Relocation). both_told same_bare (told_relocation o j) b) c.relocation_in-loop-j.ensures) in
+    test_next same_bare o p j (sym asked ∙ c.if-not-same_link_told.false) c.loop-j.invariant
 
 pub returns : goal.returns
 returns g c =
     let x = g.G.SectionGraph.graph c.args.graph.now in
-    let count = c.count-told-links.ensures ∙ ap told_count c.record-of.ensures in
-    let other = c.count-told.ensures ∙ ap told_count c.record-of-2.ensures in
+    let count = c.count_told-links.ensures ∙ ap told_count c.record_of.ensures in
+    let other = c.count_told.ensures ∙ ap told_count c.record_of-2.ensures in
     test_ends
     same_bare
     (section_of x c.args.s)

@@ -9,13 +9,13 @@ loop-s-init g c = filling_start (g.G.SectionGraph.graph c.args.graph.now) 0
 pub loop-s-preserved : goal.loop-s-preserved
 loop-s-preserved g c =
     let x = g.G.SectionGraph.graph c.args.graph.now in
-    filling_set x 0 c.loop-s.class c.loop-s.s c.if-may-fold.lead c.loop-s.invariant c.loop-s-test.true
-    (elim c.if-may-fold.branch [
+    filling_set x 0 c.loop-s.class c.loop-s.s c.if-may_fold.lead c.loop-s.invariant c.loop-s-test.true
+    (elim c.if-may_fold.branch [
       | then-may-fold w ↦
           w.lead-is ∙
-          first_class x c.first-foldable-first.result c.loop-s.s c.first-foldable-first.ensures c.loop-s-test.true
-          (sym c.may-fold.ensures ∙ w.if-may-fold.true)
-      | else-may-fold w ↦ w.lead-is ∙ other_class x c.loop-s.s (sym c.may-fold.ensures ∙ w.if-may-fold.false)
+          first_class x c.first_foldable-first.result c.loop-s.s c.first_foldable-first.ensures c.loop-s-test.true
+          (sym c.may_fold.ensures ∙ w.if-may_fold.true)
+      | else-may-fold w ↦ w.lead-is ∙ other_class x c.loop-s.s (sym c.may_fold.ensures ∙ w.if-may_fold.false)
     ])
 
 pub returns : goal.returns

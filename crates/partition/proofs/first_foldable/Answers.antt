@@ -3,8 +3,8 @@ use Rattle.unfolding.specs.Groups.{foldable}
 use Rattle.partition.proofs.Search.{unmet_more, found_here, found_none}
 use Rattle.partition.proofs.first_foldable.Goals as goal
 
-pub returns-then-may-fold : goal.returns-then-may-fold
-returns-then-may-fold g c =
+pub returns-then-may_fold : goal.returns-then-may_fold
+returns-then-may_fold g c =
     found_here
     (foldable (g.G.SectionGraph.graph c.args.graph.now))
     0
@@ -13,7 +13,7 @@ returns-then-may-fold g c =
     c.loop-s.invariant
     (omega arith)
     (omega arith)
-    (sym c.may-fold.ensures ∙ c.if-may-fold.true)
+    (sym c.may_fold.ensures ∙ c.if-may_fold.true)
 
 pub loop-s-preserved : goal.loop-s-preserved
 loop-s-preserved g c =
@@ -22,7 +22,7 @@ loop-s-preserved g c =
     0
     c.loop-s.s
     c.loop-s.invariant
-    (sym c.may-fold.ensures ∙ c.if-may-fold.false)
+    (sym c.may_fold.ensures ∙ c.if-may_fold.false)
 
 pub returns : goal.returns
 returns g c =

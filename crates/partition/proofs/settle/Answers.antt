@@ -3,7 +3,7 @@ use Rattle.partition.proofs.Turns.{turn_start, turn_next, turn_last, turn_end}
 use Rattle.partition.proofs.settle.Goals as goal
 
 pub loop-k-init : goal.loop-k-init
-loop-k-init g c = turn_start (g.G.SectionGraph.graph c.args.graph.now) c.by-mark.result c.by-mark.ensures
+loop-k-init g c = turn_start (g.G.SectionGraph.graph c.args.graph.now) c.by_mark.result c.by_mark.ensures
 
 pub returns-then-same : goal.returns-then-same
 returns-then-same g c =

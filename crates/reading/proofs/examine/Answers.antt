@@ -18,11 +18,11 @@ pub returns-in-err-n : goal.returns-in-err-n
 returns-in-err-n c =
     let b = c.args.b.now
     in let f = c.in-err-n.field-0.0
-    in let p = err_from_is_err_and c.from-residual.result c.from-residual.ensures.1
+    in let p = err_from_is_err_and c.from_residual.result c.from_residual.ensures.1
     in rw (p.1, p.2) (ends_err b (head_rule b) (from_extents b) f (err_some (first_fault (head_rule b)) f (sections b) c.in-err-n.ensures))
 
-pub on-extents-requires : goal.on-extents-requires
-on-extents-requires c =
+pub on_extents-requires : goal.on_extents-requires
+on_extents-requires c =
     let b = c.args.b.now
     in let good = ok_none (first_fault (head_rule b)) c.in-ok-n.n (sections b) c.in-ok-n.ensures
     in let first = read_is b 40 8 c.in-ok-first.first (long b 40) c.in-ok-first.ensures
@@ -32,4 +32,4 @@ pub returns : goal.returns
 returns c =
     let b = c.args.b.now
     in let good = ok_none (first_fault (head_rule b)) c.in-ok-n.n (sections b) c.in-ok-n.ensures
-    in ends_on b (head_rule b) (from_extents b) c.on-extents.result good.0 c.on-extents.ensures
+    in ends_on b (head_rule b) (from_extents b) c.on_extents.result good.0 c.on_extents.ensures

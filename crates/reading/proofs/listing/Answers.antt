@@ -16,8 +16,8 @@ use Rattle.reading.proofs.listing.Goals.{in-More, in-Whole+in-ok-s}
 
 pub loop-i-init : goal.loop-i-init
 loop-i-init c =
-    moved c.args.b.now c.args.base c.args.bytes.now 0 c.none-yet-n.result none_yet c.args.base c.args.base _ (replicate 1024 false)
-    c.none-yet-n.ensures refl refl (begin c.args.b.now c.args.base c.args.bytes.now)
+    moved c.args.b.now c.args.base c.args.bytes.now 0 c.none_yet-n.result none_yet c.args.base c.args.base _ (replicate 1024 false)
+    c.none_yet-n.ensures refl refl (begin c.args.b.now c.args.base c.args.bytes.now)
 
 pub returns-in-err-m : goal.returns-in-err-m
 returns-in-err-m c =
@@ -26,9 +26,9 @@ returns-in-err-m c =
     in let i = c.loop-i.i
     in let f = c.in-err-m.field-0.0
     in let from = c.begun-from.ensures ∙ begun_is c.loop-i.n.taken (c.args.base + i) c.loop-i.from
-    in let found = bad_number b c.args.base bytes i c.loop-i.n c.loop-i.from c.loop-i.marks f c.loop-i.invariant (omega arith) (c.type-inv.bytes i).fits
+    in let found = bad_number b c.args.base bytes i c.loop-i.n c.loop-i.from c.loop-i.marks f c.loop-i.invariant (omega arith) (c.type_inv.bytes i).fits
     (c.in-err-m.ensures ∙ ap (gathered c.loop-i.n (get_or bytes i 0)) from)
-    in let p = err_from_is_err_and c.from-residual.result c.from-residual.ensures.1
+    in let p = err_from_is_err_and c.from_residual.result c.from_residual.ensures.1
     in rw (p.1, p.2) (answer_some (first_fault (item_checks (symbols b).count (all c.args.base bytes))) f (map (listed_in b (all c.args.base bytes)) (range_with_len 0 1024)) found)
 
 pub returns-in-err-s : goal.returns-in-err-s
@@ -40,10 +40,10 @@ returns-in-err-s c =
     in let m = c.in-Whole.m
     in let from = c.begun-from.ensures ∙ begun_is c.loop-i.n.taken (c.args.base + i) c.loop-i.from
     in let bad = err_some (first_fault (number_checks (symbols b).count c.begun-from.result (Ok m))) f (symbol b m.value) c.in-err-s.ensures
-    in let found = no_symbol b c.args.base bytes i c.loop-i.n c.loop-i.from c.loop-i.marks f m c.loop-i.invariant (omega arith) (c.type-inv.bytes i).fits
+    in let found = no_symbol b c.args.base bytes i c.loop-i.n c.loop-i.from c.loop-i.marks f m c.loop-i.invariant (omega arith) (c.type_inv.bytes i).fits
     (ap Ok (sym c.in-Whole.is) ∙ (c.in-ok-m.ensures ∙ ap (gathered c.loop-i.n (get_or bytes i 0)) from))
     (ap (λ (x : ℕ). first_fault (number_checks (symbols b).count x (Ok m))) (sym from) ∙ bad)
-    in let p = err_from_is_err_and c.from-residual-in-err-s.result c.from-residual-in-err-s.ensures.1
+    in let p = err_from_is_err_and c.from_residual-in-err-s.result c.from_residual-in-err-s.ensures.1
     in rw (p.1, p.2) (answer_some (first_fault (item_checks (symbols b).count (all c.args.base bytes))) f (map (listed_in b (all c.args.base bytes)) (range_with_len 0 1024)) found)
 
 pub loop-i-preserved : goal.loop-i-preserved
@@ -56,15 +56,15 @@ loop-i-preserved c =
       | in-More w ↦
           moved b c.args.base bytes (i + 1) c.match-branch-2.n w.in-More.m c.begun-from.result (began c.loop-i.n.taken (c.args.base + i) c.loop-i.from) c.match-branch-2.marks c.loop-i.marks
           w.n-is from w.marks-is
-          (goes_on b c.args.base bytes i c.loop-i.n c.loop-i.from c.loop-i.marks w.in-More.m c.loop-i.invariant (omega arith) (c.type-inv.bytes i).fits
+          (goes_on b c.args.base bytes i c.loop-i.n c.loop-i.from c.loop-i.marks w.in-More.m c.loop-i.invariant (omega arith) (c.type_inv.bytes i).fits
           (ap Ok (sym w.in-More.is) ∙ (c.in-ok-m.ensures ∙ ap (gathered c.loop-i.n (get_or bytes i 0)) from)))
       | in-Whole+in-ok-s w ↦
           let m = w.in-Whole.m
           in let good = ok_none (first_fault (number_checks (symbols b).count c.begun-from.result (Ok m))) w.in-ok-s.s (symbol b m.value) w.in-ok-s.ensures
           in moved b c.args.base bytes (i + 1) c.match-branch-2.n none_yet c.begun-from.result (began c.loop-i.n.taken (c.args.base + i) c.loop-i.from) c.match-branch-2.marks (marked (symbol b m.value) c.loop-i.marks)
-          (w.n-is ∙ w.none-yet-n-in-Whole.ensures) from
+          (w.n-is ∙ w.none_yet-n-in-Whole.ensures) from
           (w.marks-is ∙ (w.mark.ensures ∙ ap (λ (x : Symbol). marked x c.loop-i.marks) good.1))
-          (is_whole b c.args.base bytes i c.loop-i.n c.loop-i.from c.loop-i.marks m c.loop-i.invariant (omega arith) (c.type-inv.bytes i).fits
+          (is_whole b c.args.base bytes i c.loop-i.n c.loop-i.from c.loop-i.marks m c.loop-i.invariant (omega arith) (c.type_inv.bytes i).fits
           (ap Ok (sym w.in-Whole.is) ∙ (c.in-ok-m.ensures ∙ ap (gathered c.loop-i.n (get_or bytes i 0)) from))
           (ap (λ (x : ℕ). first_fault (number_checks (symbols b).count x (Ok m))) (sym from) ∙ good.0))
     ]

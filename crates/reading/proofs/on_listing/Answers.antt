@@ -19,7 +19,7 @@ pub returns-in-err-table : goal.returns-in-err-table
 returns-in-err-table c =
     let b = c.args.b.now
     in let f = c.in-err-table.field-0.0
-    in let p = err_from_is_err_and c.from-residual.result c.from-residual.ensures.1
+    in let p = err_from_is_err_and c.from_residual.result c.from_residual.ensures.1
     in rw (p.1, p.2)
     (ends_err b (each (only_rule significance_kind b) (sections b)) (listing_rule b) f
     (ap (λ (x : ℕ). first_fault (each (only_rule significance_kind b) x)) (sym c.requires.0.count_right)
@@ -36,7 +36,7 @@ returns-in-err-listed c =
     let b = c.args.b.now
     in let f = c.in-err-listed.field-0.0
     in let found = ok_none (first_fault (each (only_rule significance_kind b) c.args.n)) c.in-ok-table.table (first_where (of_kind significance_kind b) c.args.n) c.in-ok-table.ensures
-    in let p = err_from_is_err_and c.from-residual-in-err-listed.result c.from-residual-in-err-listed.ensures.1
+    in let p = err_from_is_err_and c.from_residual-in-err-listed.result c.from_residual-in-err-listed.ensures.1
     in rw (p.1, p.2)
     (ends_on b (each (only_rule significance_kind b) (sections b)) (listing_rule b) (Err f)
     (ap (λ (x : ℕ). first_fault (each (only_rule significance_kind b) x)) (sym c.requires.0.count_right) ∙ found.0)
@@ -55,7 +55,7 @@ returns c =
       record {
         symbols_right = c.requires.1.1.0.symbols_right;
         parts_right = c.requires.1.0;
-        listing_right = c.is-some.ensures ∙ ap is_some (found.1 ∙ ap (first_where (of_kind significance_kind b)) known.count_right);
+        listing_right = c.is_some.ensures ∙ ap is_some (found.1 ∙ ap (first_where (of_kind significance_kind b)) known.count_right);
         marks_right = listed.1;
         few_roots = omega (arith, rooted.few, known.few);
         roots_right = rooted.right ∙ ap (λ (x : ℕ). filter (is_root b) (range_with_len 0 x)) known.count_right;

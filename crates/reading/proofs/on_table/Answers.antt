@@ -18,11 +18,11 @@ pub returns-in-err-symbols : goal.returns-in-err-symbols
 returns-in-err-symbols c =
     let b = c.args.b.now
     in let f = c.in-err-symbols.field-0.0
-    in let p = err_from_is_err_and c.from-residual.result c.from-residual.ensures.1
+    in let p = err_from_is_err_and c.from_residual.result c.from_residual.ensures.1
     in rw (p.1, p.2) (ends_err b (table_rule b) (from_relocations b) f (err_some (first_fault (table_rule b)) f (symbols b) c.in-err-symbols.ensures))
 
-pub on-relocations-requires : goal.on-relocations-requires
-on-relocations-requires c =
+pub on_relocations-requires : goal.on_relocations-requires
+on_relocations-requires c =
     let b = c.args.b.now
     in let good = ok_none (first_fault (table_rule b)) c.in-ok-symbols.symbols (symbols b) c.in-ok-symbols.ensures
     in (c.requires.0, (c.requires.1.0, (subst (Tabled b) (sym good.1) (tabled b c.args.first c.args.n c.requires.0 c.requires.1.1), c.requires.1.1)))
@@ -31,4 +31,4 @@ pub returns : goal.returns
 returns c =
     let b = c.args.b.now
     in let good = ok_none (first_fault (table_rule b)) c.in-ok-symbols.symbols (symbols b) c.in-ok-symbols.ensures
-    in ends_on b (table_rule b) (from_relocations b) c.on-relocations.result good.0 c.on-relocations.ensures
+    in ends_on b (table_rule b) (from_relocations b) c.on_relocations.result good.0 c.on_relocations.ensures

@@ -14,7 +14,7 @@ returns-in-err-found c =
     in let turn = only_turn c.args.kind b c.args.first c.args.n i c.in-ok-h.h c.loop-i.found c.requires c.in-ok-h.ensures c.loop-i.invariant.0
     in let found = err_some (first_fault (only_checks c.args.kind (c.args.first + 64 * i) c.in-ok-h.h c.loop-i.found)) f
     (earlier c.loop-i.found (eqb c.in-ok-h.h.kind c.args.kind) i) c.in-err-found.ensures
-    in let p = err_from_is_err_and c.from-residual-in-err-found.result c.from-residual-in-err-found.ensures.1
+    in let p = err_from_is_err_and c.from_residual-in-err-found.result c.from_residual-in-err-found.ensures.1
     in rw (p.1, p.2)
     (answer_some (first_fault (each (only_rule c.args.kind b) c.args.n)) f (first_where (of_kind c.args.kind b) c.args.n)
     (each_found (only_rule c.args.kind b) i c.args.n f c.loop-i-test.true c.loop-i.invariant.1 (ap first_fault (sym turn.0) ∙ found)))

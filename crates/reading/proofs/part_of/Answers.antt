@@ -14,10 +14,10 @@ returns-in-err-count c =
     in let b = c.args.b.now
     in let i = c.args.i
     in let h = c.in-ok-h.h
-    in let turn = part_turn b c.args.first c.args.n i c.args.found c.args.parts.now h c.in-ok-of.of c.noted-taken.result c.is-number-linked.result
-    c.requires.0 c.requires.1.0 c.requires.1.1.0 c.requires.1.1.1 c.in-ok-h.ensures (sym c.if-not-relocating.ensures) (omega arith) c.in-ok-of.ensures (sym c.if-not-present.ensures) c.noted-taken.ensures c.is-number-linked.ensures
-    in let found = err_some (first_fault (fit_checks (c.args.first + 64 * i) h c.noted-taken.result c.is-number-linked.result)) f (h.size / 24) c.in-err-count.ensures
-    in let p = err_from_is_err_and c.from-residual-in-err-count.result c.from-residual-in-err-count.ensures.1
+    in let turn = part_turn b c.args.first c.args.n i c.args.found c.args.parts.now h c.in-ok-of.of c.noted-taken.result c.is_number-linked.result
+    c.requires.0 c.requires.1.0 c.requires.1.1.0 c.requires.1.1.1 c.in-ok-h.ensures (sym c.if-not-relocating.ensures) (omega arith) c.in-ok-of.ensures (sym c.if-not-present.ensures) c.noted-taken.ensures c.is_number-linked.ensures
+    in let found = err_some (first_fault (fit_checks (c.args.first + 64 * i) h c.noted-taken.result c.is_number-linked.result)) f (h.size / 24) c.in-err-count.ensures
+    in let p = err_from_is_err_and c.from_residual-in-err-count.result c.from_residual-in-err-count.ensures.1
     in rw (p.1, p.2) (answer_some (first_fault (part_checks b i (place b i) (section b i))) f (told_part b (section b i)) (turn.0 ∙ found))
 
 pub returns : goal.returns
@@ -25,9 +25,9 @@ returns c =
     let b = c.args.b.now
     in let i = c.args.i
     in let h = c.in-ok-h.h
-    in let turn = part_turn b c.args.first c.args.n i c.args.found c.args.parts.now h c.in-ok-of.of c.noted-taken.result c.is-number-linked.result
-    c.requires.0 c.requires.1.0 c.requires.1.1.0 c.requires.1.1.1 c.in-ok-h.ensures (sym c.if-not-relocating.ensures) (omega arith) c.in-ok-of.ensures (sym c.if-not-present.ensures) c.noted-taken.ensures c.is-number-linked.ensures
-    in let none = ok_none (first_fault (fit_checks (c.args.first + 64 * i) h c.noted-taken.result c.is-number-linked.result)) c.in-ok-count.count (h.size / 24) c.in-ok-count.ensures
+    in let turn = part_turn b c.args.first c.args.n i c.args.found c.args.parts.now h c.in-ok-of.of c.noted-taken.result c.is_number-linked.result
+    c.requires.0 c.requires.1.0 c.requires.1.1.0 c.requires.1.1.1 c.in-ok-h.ensures (sym c.if-not-relocating.ensures) (omega arith) c.in-ok-of.ensures (sym c.if-not-present.ensures) c.noted-taken.ensures c.is_number-linked.ensures
+    in let none = ok_none (first_fault (fit_checks (c.args.first + 64 * i) h c.noted-taken.result c.is_number-linked.result)) c.in-ok-count.count (h.size / 24) c.in-ok-count.ensures
     in rw (turn.1, none.1)
     (answer_none (first_fault (part_checks b i (place b i) (section b i)))
     (Some (record { target = h.info; size = c.in-ok-of.of.size; from = h.offset; count = h.size / 24 })) (turn.0 ∙ none.0))

@@ -22,13 +22,13 @@ pub loop-j-init : goal.loop-j-init
 loop-j-init c =
     (into c.args.b.now c.reading.i _ c.reading.parts c.in-Some.part c.reading.invariant (rw c.requires.0.count_right at c.requires.0.few) (ap Ok (sym c.in-Some.is) ∙ c.in-Ok.ensures)).1
 
-pub overflow-add-q : goal.overflow-add-q
-overflow-add-q c =
+pub overflow_add-q : goal.overflow_add-q
+overflow_add-q c =
     let ends = part_ends c.args.b.now c.args.first c.args.n c.reading.i c.in-Some.part c.requires.0 c.reading-test.true c.loop-j.invariant.told c.requires.1.1.1
     in record { fits = omega arith }
 
-pub entry-at-requires : goal.entry-at-requires
-entry-at-requires c =
+pub entry_at-requires : goal.entry_at-requires
+entry_at-requires c =
     let ends = part_ends c.args.b.now c.args.first c.args.n c.reading.i c.in-Some.part c.requires.0 c.reading-test.true c.loop-j.invariant.told c.requires.1.1.1
     in (c.requires.0, (c.requires.1.1.0, omega arith))
 
@@ -77,9 +77,9 @@ returns-in-Some-refused c =
           let b = c.args.b.now
           in let m = w.in-Some.part
           in let q : ℕ = m.from + 24 * w.loop-j.j
-          in let same : c.in-Some-refused.f ≡ w.in-Err-entry-at.f = cc
-          in let found = err_some (first_fault (entry_checks b m.size q (entry_at b q))) w.in-Err-entry-at.f tt w.in-Err-entry-at.ensures
+          in let same : c.in-Some-refused.f ≡ w.in-Err-entry_at.f = cc
+          in let found = err_some (first_fault (entry_checks b m.size q (entry_at b q))) w.in-Err-entry_at.f tt w.in-Err-entry_at.ensures
           in ap Err same
-          ∙ answer_some (first_fault (each (relocation_rule b) c.args.n)) w.in-Err-entry-at.f (map (part_note b c.args.n) (range_with_len 0 1024))
-          (entry_found b c.reading.i _ _ c.args.n w.in-Err-entry-at.f m w.loop-j.j w.loop-j.invariant w.reading-test.true w.loop-j-test.true found)
+          ∙ answer_some (first_fault (each (relocation_rule b) c.args.n)) w.in-Err-entry_at.f (map (part_note b c.args.n) (range_with_len 0 1024))
+          (entry_found b c.reading.i _ _ c.args.n w.in-Err-entry_at.f m w.loop-j.j w.loop-j.invariant w.reading-test.true w.loop-j-test.true found)
     ]

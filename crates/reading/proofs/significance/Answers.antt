@@ -9,8 +9,8 @@ use Rattle.reading.proofs.Firsts.{only_is, extent_is}
 use Rattle.reading.proofs.Ending.{unlisted}
 use Rattle.reading.proofs.significance.Goals as goal
 
-pub listing-at-requires : goal.listing-at-requires
-listing-at-requires c =
+pub listing_at-requires : goal.listing_at-requires
+listing_at-requires c =
     let b = c.args.b.now
     in let known = c.requires.0
     in let at = only_is significance_kind b c.args.first c.args.n c.in-Some.a known (sym c.in-Some.is ∙ c.requires.1.0)
@@ -25,6 +25,6 @@ returns-in-None c =
 pub returns-in-Some : goal.returns-in-Some
 returns-in-Some c =
     let b = c.args.b.now
-    in c.listing-at.ensures
+    in c.listing_at.ensures
     ∙ ap (λ (o : Option ℕ). answer (first_fault (item_checks (symbols b).count (listing_of b o))) (map (listed_in b (listing_of b o)) (range_with_len 0 1024)))
     (sym c.in-Some.is ∙ c.requires.1.0)

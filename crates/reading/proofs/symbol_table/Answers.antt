@@ -3,8 +3,8 @@ use Rattle.elf.specs.Layout.{section}
 use Rattle.reading.proofs.Firsts.{only_is, extent_is}
 use Rattle.reading.proofs.symbol_table.Goals as goal
 
-pub symbols-at-requires : goal.symbols-at-requires
-symbols-at-requires c =
+pub symbols_at-requires : goal.symbols_at-requires
+symbols_at-requires c =
     let b = c.args.b.now
     in let known = c.requires.0
     in let at = only_is 2 b c.args.first c.args.n c.in-Some.t known (sym c.in-Some.is ∙ c.requires.1.0)

@@ -6,6 +6,6 @@ use Rattle.refolding.proofs.fault_text.Goals as goal
 pub returns : goal.returns
 returns c =
     filled (fault_row c.args.fault.now) _ _ _ _
-    c.write-fault.ensures.text
-    c.as-mut-slice.ensures.len
-    (c.in-ok-text.ensures.len ∙ c.row-length.ensures)
+    c.write_fault.ensures.text
+    c.as_mut_slice.ensures.len
+    (c.in-ok-text.ensures.len ∙ c.row_length.ensures)

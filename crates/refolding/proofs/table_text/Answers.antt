@@ -6,6 +6,6 @@ use Rattle.refolding.proofs.table_text.Goals as goal
 pub returns : goal.returns
 returns g c =
     filled (text_of (g.G.SectionGraph.graph c.args.graph.now)) _ _ _ _
-    c.write-table.ensures.text
-    c.as-mut-slice.ensures.len
-    (c.in-ok-text.ensures.len ∙ c.table-length.ensures)
+    c.write_table.ensures.text
+    c.as_mut_slice.ensures.len
+    (c.in-ok-text.ensures.len ∙ c.table_length.ensures)

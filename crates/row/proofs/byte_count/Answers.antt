@@ -4,49 +4,49 @@ use Rattle.row.proofs.Bytes.{count_starts, stops, fails, more, ends, runs_on}
 use Rattle.row.proofs.byte_count.Goals as goal
 
 pub loop-count-init : goal.loop-count-init
-loop-count-init c = count_starts c.args.text.now c.in-ok-short-at.field-0 c.in-ok-short-at.ensures
+loop-count-init c = count_starts c.args.text.now c.in-ok-short_at.field-0 c.in-ok-short_at.ensures
 
-pub returns-then-byte-at-eq10 : goal.returns-then-byte-at-eq10
-returns-then-byte-at-eq10 c =
-    stops c.args.text.now c.loop-count.count c.from.result c.byte-at.result c.loop-count-test.true
+pub returns-then-byte_at-eq10 : goal.returns-then-byte_at-eq10
+returns-then-byte_at-eq10 c =
+    stops c.args.text.now c.loop-count.count c.from.result c.byte_at.result c.loop-count-test.true
     c.loop-count.invariant
     c.from.ensures
-    c.byte-at.ensures
-    c.if-byte-at-eq10.true
+    c.byte_at.ensures
+    c.if-byte_at-eq10.true
 
-pub returns-in-err-short-at-2 : goal.returns-in-err-short-at-2
-returns-in-err-short-at-2 c =
-    let p = err_from_is_err_and c.from-residual-in-err-short-at-2.result c.from-residual-in-err-short-at-2.ensures.1 in
+pub returns-in-err-short_at-2 : goal.returns-in-err-short_at-2
+returns-in-err-short_at-2 c =
+    let p = err_from_is_err_and c.from_residual-in-err-short_at-2.result c.from_residual-in-err-short_at-2.ensures.1 in
     rw (p.1, p.2)
     (
-    fails c.args.text.now c.loop-count.count c.from.result c.byte-at.result c.loop-count-test.true
+    fails c.args.text.now c.loop-count.count c.from.result c.byte_at.result c.loop-count-test.true
     c.loop-count.invariant
     c.from.ensures
-    c.byte-at.ensures
-    c.in-err-short-at-2.field-0.0
-    c.if-byte-at-eq10.false
-    c.in-err-short-at-2.ensures
+    c.byte_at.ensures
+    c.in-err-short_at-2.field-0.0
+    c.if-byte_at-eq10.false
+    c.in-err-short_at-2.ensures
     )
 
 pub loop-count-preserved : goal.loop-count-preserved
 loop-count-preserved c =
-    more c.args.text.now c.loop-count.count c.from.result c.byte-at.result c.loop-count-test.true
+    more c.args.text.now c.loop-count.count c.from.result c.byte_at.result c.loop-count-test.true
     c.loop-count.invariant
     c.from.ensures
-    c.byte-at.ensures
-    c.in-ok-short-at-2.field-0
-    c.if-byte-at-eq10.false
-    c.in-ok-short-at-2.ensures
+    c.byte_at.ensures
+    c.in-ok-short_at-2.field-0
+    c.if-byte_at-eq10.false
+    c.in-ok-short_at-2.ensures
 
-pub returns-in-err-end-at : goal.returns-in-err-end-at
-returns-in-err-end-at c =
-    let p = err_from_is_err_and c.from-residual-in-err-end-at.result c.from-residual-in-err-end-at.ensures.1 in
+pub returns-in-err-end_at : goal.returns-in-err-end_at
+returns-in-err-end_at c =
+    let p = err_from_is_err_and c.from_residual-in-err-end_at.result c.from_residual-in-err-end_at.ensures.1 in
     rw (p.1, p.2)
     (
-    runs_on c.args.text.now c.loop-count.count (omega arith) c.loop-count.invariant c.in-err-end-at.field-0.0
-    c.in-err-end-at.ensures
+    runs_on c.args.text.now c.loop-count.count (omega arith) c.loop-count.invariant c.in-err-end_at.field-0.0
+    c.in-err-end_at.ensures
     )
 
 pub returns : goal.returns
 returns c =
-    ends c.args.text.now c.loop-count.count (omega arith) c.loop-count.invariant c.in-ok-end-at.ensures.0
+    ends c.args.text.now c.loop-count.count (omega arith) c.loop-count.invariant c.in-ok-end_at.ensures.0

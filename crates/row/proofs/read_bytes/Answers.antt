@@ -6,12 +6,12 @@ use Rattle.row.proofs.read_bytes.Goals as goal
 
 pub returns-in-err-count : goal.returns-in-err-count
 returns-in-err-count c =
-    let p = err_from_is_err_and c.from-residual.result c.from-residual.ensures.1 in
+    let p = err_from_is_err_and c.from_residual.result c.from_residual.ensures.1 in
     let e = bytes_refused c.args.text.now c.in-err-count.field-0.0 (sym c.in-err-count.ensures) in
     rw (p.1, p.2) (record { row = sym e; cut = tt })
 
-pub slice-bounds-part-end : goal.slice-bounds-part-end
-slice-bounds-part-end c =
+pub slice_bounds-part-end : goal.slice_bounds-part-end
+slice_bounds-part-end c =
     let m = bytes_counted c.args.text.now c.in-ok-count.count (sym c.in-ok-count.ensures) in
     rw c.from.ensures (sym (length-take-le _ c.args.text.now m.room))
 

@@ -6,6 +6,6 @@ pub returns : goal.returns
 unfolding read_row
 returns c =
     record {
-      row = c.row-at.ensures.row;
-      part = occupies c.args.text.now c.row-at.result c.row-at.ensures.row c.row-at.ensures.cut;
+      row = c.row_at.ensures.row;
+      part = occupies c.args.text.now c.row_at.result c.row_at.ensures.row c.row_at.ensures.cut;
     }

@@ -8,9 +8,9 @@ returns-in-default c =
       row =
           sym
           (
-          rw (← c.byte-at.ensures)
+          rw (← c.byte_at.ensures)
           (
-          other_letter c.byte-at.result c.args.text.now (λ e. omega arith) (λ e. omega arith) (λ e. omega arith) (λ e. omega arith) (λ e. omega arith) (λ e. omega arith)
+          other_letter c.byte_at.result c.args.text.now (λ e. omega arith) (λ e. omega arith) (λ e. omega arith) (λ e. omega arith) (λ e. omega arith) (λ e. omega arith)
           )
           );
       cut = tt;

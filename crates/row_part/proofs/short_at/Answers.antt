@@ -3,4 +3,4 @@ use Rattle.row_part.proofs.short_at.Goals as goal
 
 pub returns : goal.returns
 unfolding natural_at
-returns c = c.bounded-short.ensures
+returns c = c.bounded_short.ensures

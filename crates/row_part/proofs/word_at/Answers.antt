@@ -3,4 +3,4 @@ use Rattle.row_part.proofs.word_at.Goals as goal
 
 pub returns : goal.returns
 unfolding natural_at
-returns c = c.bounded-word.ensures
+returns c = c.bounded_word.ensures

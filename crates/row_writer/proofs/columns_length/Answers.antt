@@ -8,13 +8,13 @@ pub loop-number-preserved : goal.loop-number-preserved
 loop-number-preserved c =
     let here = numbered c.args.numbers.now c.loop-number.number-index c.loop-number-test.true in
     let wide =
-    subst (λ (z : ℤ). Wide c.args.width z c.width-of-sum.result) here.1 c.width-of-sum.ensures in
+    subst (λ (z : ℤ). Wide c.args.width z c.width_of-sum.result) here.1 c.width_of-sum.ensures in
     let long =
     length_more c.args.width (map value c.args.numbers.now) c.loop-number.number-index
-    c.width-of-sum.result
+    c.width_of-sum.result
     here.0
     wide in
-    (omega (arith, long, c.loop-number.invariant.0), omega (arith, c.loop-number.invariant.1, c.width-of-sum.ensures.few))
+    (omega (arith, long, c.loop-number.invariant.0), omega (arith, c.loop-number.invariant.1, c.width_of-sum.ensures.few))
 
 pub returns : goal.returns
 returns c =

@@ -5,7 +5,7 @@ use Rattle.row_writer.proofs.width_of.Goals as goal
 
 pub returns-then-size-width : goal.returns-then-size-width
 returns-then-size-width c =
-    rw c.size-of-size.ensures.long
+    rw c.size_of-size.ensures.long
     (wide_needed c.args.width (value c.args.number) (omega arith) (omega arith))
 
 pub returns-else-size-width : goal.returns-else-size-width

@@ -5,20 +5,20 @@ use Rattle.row_writer.specs.Writing.{over}
 use Rattle.row_writer.proofs.Filled.{byte_room, byte_fits, byte_more, so_far_all}
 use Rattle.row_writer.proofs.write_byte_columns.Goals as goal
 
-pub overflow-add-past : goal.overflow-add-past
-overflow-add-past c =
+pub overflow_add-past : goal.overflow_add-past
+overflow_add-past c =
     let h =
     byte_room c.args.values.now c.loop-b.b-index c.loop-b.at c.args.out.now c.loop-b-test.true
-    (c.type-inv.values c.loop-b.b-index).fits
+    (c.type_inv.values c.loop-b.b-index).fits
     c.requires
     c.loop-b.invariant.0 in
     search rules
 
-pub slice-bounds-fill-end : goal.slice-bounds-fill-end
-slice-bounds-fill-end c =
+pub slice_bounds-fill-end : goal.slice_bounds-fill-end
+slice_bounds-fill-end c =
     let h =
     byte_room c.args.values.now c.loop-b.b-index c.loop-b.at c.args.out.now c.loop-b-test.true
-    (c.type-inv.values c.loop-b.b-index).fits
+    (c.type_inv.values c.loop-b.b-index).fits
     c.requires
     c.loop-b.invariant.0 in
     search rules
@@ -27,13 +27,13 @@ pub fill-requires : goal.fill-requires
 fill-requires c =
     let h =
     byte_room c.args.values.now c.loop-b.b-index c.loop-b.at c.args.out.now c.loop-b-test.true
-    (c.type-inv.values c.loop-b.b-index).fits
+    (c.type_inv.values c.loop-b.b-index).fits
     c.requires
     c.loop-b.invariant.0 in
     rw c.from.ensures
     (
     byte_fits c.args.values.now c.loop-b.b-index c.loop-b.at c.args.out.now c.loop-b-test.true
-    (c.type-inv.values c.loop-b.b-index).fits
+    (c.type_inv.values c.loop-b.b-index).fits
     c.loop-b.out
     (omega (arith, h, c.loop-b.auto.out))
     )
@@ -43,7 +43,7 @@ loop-b-preserved c =
     let part : ℕ =
     length (take (c.loop-b.at + 4 - c.loop-b.at) (drop c.loop-b.at c.loop-b.out)) in
     byte_more c.args.values.now c.loop-b.b-index c.loop-b.at c.args.out.now c.loop-b-test.true
-    (c.type-inv.values c.loop-b.b-index).fits
+    (c.type_inv.values c.loop-b.b-index).fits
     c.loop-b.out
     c.fill.new.out
     c.requires

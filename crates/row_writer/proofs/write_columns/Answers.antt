@@ -5,13 +5,13 @@ use Rattle.row_writer.specs.Writing.{over, value, Wide}
 use Rattle.row_writer.proofs.Filled.{numbered, room_more, write_more, so_far_all}
 use Rattle.row_writer.proofs.write_columns.Goals as goal
 
-pub overflow-add-past : goal.overflow-add-past
-overflow-add-past c =
+pub overflow_add-past : goal.overflow_add-past
+overflow_add-past c =
     let here = numbered c.args.numbers.now c.loop-number.number-index c.loop-number-test.true in
-    let wide = subst (λ (z : ℤ). Wide c.args.width z c.width-of.result) here.1 c.width-of.ensures in
+    let wide = subst (λ (z : ℤ). Wide c.args.width z c.width_of.result) here.1 c.width_of.ensures in
     let h =
     room_more c.args.width (map value c.args.numbers.now) c.loop-number.number-index c.loop-number.at
-    c.width-of.result
+    c.width_of.result
     c.args.out.now
     here.0
     c.requires.1
@@ -19,13 +19,13 @@ overflow-add-past c =
     wide in
     search rules
 
-pub slice-bounds-fill-end : goal.slice-bounds-fill-end
-slice-bounds-fill-end c =
+pub slice_bounds-fill-end : goal.slice_bounds-fill-end
+slice_bounds-fill-end c =
     let here = numbered c.args.numbers.now c.loop-number.number-index c.loop-number-test.true in
-    let wide = subst (λ (z : ℤ). Wide c.args.width z c.width-of.result) here.1 c.width-of.ensures in
+    let wide = subst (λ (z : ℤ). Wide c.args.width z c.width_of.result) here.1 c.width_of.ensures in
     let h =
     room_more c.args.width (map value c.args.numbers.now) c.loop-number.number-index c.loop-number.at
-    c.width-of.result
+    c.width_of.result
     c.args.out.now
     here.0
     c.requires.1
@@ -36,11 +36,11 @@ slice-bounds-fill-end c =
 pub loop-number-preserved : goal.loop-number-preserved
 loop-number-preserved c =
     let here = numbered c.args.numbers.now c.loop-number.number-index c.loop-number-test.true in
-    let wide = subst (λ (z : ℤ). Wide c.args.width z c.width-of.result) here.1 c.width-of.ensures in
+    let wide = subst (λ (z : ℤ). Wide c.args.width z c.width_of.result) here.1 c.width_of.ensures in
     let part : ℕ =
-    length (take (c.loop-number.at + c.width-of.result - c.loop-number.at) (drop c.loop-number.at c.loop-number.out)) in
+    length (take (c.loop-number.at + c.width_of.result - c.loop-number.at) (drop c.loop-number.at c.loop-number.out)) in
     write_more c.args.width (map value c.args.numbers.now) c.loop-number.number-index c.loop-number.at
-    c.width-of.result
+    c.width_of.result
     c.loop-number.out
     c.args.out.now
     c.fill.new.out

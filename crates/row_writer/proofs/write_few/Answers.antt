@@ -12,21 +12,21 @@ returns-then-out-needed c =
     let long : 4 * length c.args.values.now + 2 ≡ length row =
     omega (
       arith,
-      bytes_length c.args.values.now (λ i. (c.type-inv.values i).fits),
+      bytes_length c.args.values.now (λ i. (c.type_inv.values i).fits),
       length_row 66 (columns 4 (map pos c.args.values.now)),
     ) in
     record {
       answer =
-          ap (λ f. Err f) (c.too-small.ensures ∙ ap small long)
+          ap (λ f. Err f) (c.too_small.ensures ∙ ap small long)
           ∙ sym (wrote_short row c.args.out.now (omega (arith, long, c.if-out-needed.true)));
       text = sym (put_short row c.args.out.now (omega (arith, long, c.if-out-needed.true)));
     }
 
-pub fill-bytes-requires : goal.fill-bytes-requires
-fill-bytes-requires c =
+pub fill_bytes-requires : goal.fill_bytes-requires
+fill_bytes-requires c =
     omega (
       arith,
-      bytes_length c.args.values.now (λ i. (c.type-inv.values i).fits),
+      bytes_length c.args.values.now (λ i. (c.type_inv.values i).fits),
       length_row 66 (columns 4 (map pos c.args.values.now)),
       c.if-out-needed.false,
     )
@@ -37,11 +37,11 @@ returns c =
     let long : 4 * length c.args.values.now + 2 ≡ length row =
     omega (
       arith,
-      bytes_length c.args.values.now (λ i. (c.type-inv.values i).fits),
+      bytes_length c.args.values.now (λ i. (c.type_inv.values i).fits),
       length_row 66 (columns 4 (map pos c.args.values.now)),
     ) in
     record {
       answer =
           ap (λ (n : ℕ). Ok n) long ∙ sym (wrote_fits row c.args.out.now (omega (arith, long, c.if-out-needed.false)));
-      text = c.fill-bytes.ensures ∙ sym (put_fits row c.args.out.now (omega (arith, long, c.if-out-needed.false)));
+      text = c.fill_bytes.ensures ∙ sym (put_fits row c.args.out.now (omega (arith, long, c.if-out-needed.false)));
     }

@@ -8,25 +8,25 @@ use Rattle.row_writer.proofs.write_row.Goals as goal
 pub returns-then-out-needed : goal.returns-then-out-needed
 returns-then-out-needed c =
     let row : List ℕ = row_text c.args.letter c.args.width (map value c.args.numbers.now) in
-    let long : c.columns-length-needed.result + 2 ≡ length row =
+    let long : c.columns_length-needed.result + 2 ≡ length row =
     omega (
       arith,
-      c.columns-length-needed.ensures.long,
+      c.columns_length-needed.ensures.long,
       length_row c.args.letter (columns c.args.width (map value c.args.numbers.now)),
     ) in
     record {
       answer =
-          ap (λ f. Err f) (c.too-small.ensures ∙ ap small long)
+          ap (λ f. Err f) (c.too_small.ensures ∙ ap small long)
           ∙ sym (wrote_short row c.args.out.now (omega (arith, long, c.if-out-needed.true)));
       text = sym (put_short row c.args.out.now (omega (arith, long, c.if-out-needed.true)));
     }
 
-pub fill-row-requires : goal.fill-row-requires
-fill-row-requires c = (
+pub fill_row-requires : goal.fill_row-requires
+fill_row-requires c = (
   c.requires.0,
   omega (
     arith,
-    c.columns-length-needed.ensures.long,
+    c.columns_length-needed.ensures.long,
     length_row c.args.letter (columns c.args.width (map value c.args.numbers.now)),
     c.if-out-needed.false,
   ),
@@ -35,14 +35,14 @@ fill-row-requires c = (
 pub returns : goal.returns
 returns c =
     let row : List ℕ = row_text c.args.letter c.args.width (map value c.args.numbers.now) in
-    let long : c.columns-length-needed.result + 2 ≡ length row =
+    let long : c.columns_length-needed.result + 2 ≡ length row =
     omega (
       arith,
-      c.columns-length-needed.ensures.long,
+      c.columns_length-needed.ensures.long,
       length_row c.args.letter (columns c.args.width (map value c.args.numbers.now)),
     ) in
     record {
       answer =
           ap (λ (n : ℕ). Ok n) long ∙ sym (wrote_fits row c.args.out.now (omega (arith, long, c.if-out-needed.false)));
-      text = c.fill-row.ensures ∙ sym (put_fits row c.args.out.now (omega (arith, long, c.if-out-needed.false)));
+      text = c.fill_row.ensures ∙ sym (put_fits row c.args.out.now (omega (arith, long, c.if-out-needed.false)));
     }

@@ -5,24 +5,24 @@ use Rattle.summary.proofs.tally.Goals as goal
 pub loop-s-init : goal.loop-s-init
 loop-s-init g c = sums_none (g.G.SectionGraph.graph c.args.graph.now)
 
-pub overflow-add-present : goal.overflow-add-present
-overflow-add-present g c = omega (arith, c.loop-s.invariant.few_present, c.one-present-present.ensures, (one_or_none c.record-of-told.result).0)
+pub overflow_add-present : goal.overflow_add-present
+overflow_add-present g c = omega (arith, c.loop-s.invariant.few_present, c.one_present-present.ensures, (one_or_none c.record_of-told.result).0)
 
-pub overflow-add-pinned : goal.overflow-add-pinned
-overflow-add-pinned g c = omega (arith, c.loop-s.invariant.few_pinned, c.one-pinned-pinned.ensures, (one_or_none c.record-of-told.result).1)
+pub overflow_add-pinned : goal.overflow_add-pinned
+overflow_add-pinned g c = omega (arith, c.loop-s.invariant.few_pinned, c.one_pinned-pinned.ensures, (one_or_none c.record_of-told.result).1)
 
-pub overflow-add-bytes : goal.overflow-add-bytes
-overflow-add-bytes g c = omega (arith, c.loop-s.invariant.few_bytes, c.from-bytes.ensures, c.its-bytes.type-inv)
+pub overflow_add-bytes : goal.overflow_add-bytes
+overflow_add-bytes g c = omega (arith, c.loop-s.invariant.few_bytes, c.from-bytes.ensures, c.its_bytes.type_inv)
 
-pub overflow-add-relocations : goal.overflow-add-relocations
-overflow-add-relocations g c = omega (arith, c.loop-s.invariant.few_relocations, c.from-relocations.ensures, c.its-relocations.type-inv)
+pub overflow_add-relocations : goal.overflow_add-relocations
+overflow_add-relocations g c = omega (arith, c.loop-s.invariant.few_relocations, c.from_relocations.ensures, c.its_relocations.type_inv)
 
 pub loop-s-preserved : goal.loop-s-preserved
 loop-s-preserved g c =
-    sums_more (g.G.SectionGraph.graph c.args.graph.now) c.loop-s.s _ _ _ _ c.record-of-told.result _ _ _ _
-    c.loop-s.invariant c.record-of-told.ensures c.one-present-present.ensures c.one-pinned-pinned.ensures
-    (c.from-bytes.ensures ∙ c.its-bytes.ensures) (c.from-relocations.ensures ∙ c.its-relocations.ensures)
-    (omega (arith, c.from-bytes.ensures, c.its-bytes.type-inv)) (omega (arith, c.from-relocations.ensures, c.its-relocations.type-inv))
+    sums_more (g.G.SectionGraph.graph c.args.graph.now) c.loop-s.s _ _ _ _ c.record_of-told.result _ _ _ _
+    c.loop-s.invariant c.record_of-told.ensures c.one_present-present.ensures c.one_pinned-pinned.ensures
+    (c.from-bytes.ensures ∙ c.its_bytes.ensures) (c.from_relocations.ensures ∙ c.its_relocations.ensures)
+    (omega (arith, c.from-bytes.ensures, c.its_bytes.type_inv)) (omega (arith, c.from_relocations.ensures, c.its_relocations.type_inv))
 
 pub returns : goal.returns
 returns g c =

@@ -7,12 +7,12 @@ pub loop-s-preserved : goal.loop-s-preserved
 loop-s-preserved g c =
     let bs = (g.G.SectionGraph.graph c.args.graph.now).sections in
     let low : c.loop-s.s < length bs = omega (arith, c.loop-s-test.true, c.count-s-end.ensures) in
-    elim c.if-is-some.branch [
+    elim c.if-is_some.branch [
       | then-is-some w ↦
-          let e = count_more bs c.loop-s.s c.record-of.result low c.record-of.ensures (sym w.if-is-some.ensures) in
+          let e = count_more bs c.loop-s.s c.record_of.result low c.record_of.ensures (sym w.if-is_some.ensures) in
           (omega (arith, w.count-is, e), omega (arith, w.count-is))
       | else-is-some w ↦
-          let e = count_same bs c.loop-s.s c.record-of.result low c.record-of.ensures (sym w.if-is-some.ensures) in
+          let e = count_same bs c.loop-s.s c.record_of.result low c.record_of.ensures (sym w.if-is_some.ensures) in
           (omega (arith, w.count-is, e), omega (arith, w.count-is))
     ]
 

@@ -7,12 +7,12 @@ pub loop-s-preserved : goal.loop-s-preserved
 loop-s-preserved g c =
     let bs = (g.G.SectionGraph.graph c.args.graph.now).sections in
     let low : c.loop-s.s < length bs = omega (arith, c.loop-s-test.true, c.count-s-end.ensures) in
-    elim c.match-record-of.branch [
+    elim c.match-record_of.branch [
       | in-Some w ↦
-          let e = length_more bs c.loop-s.s c.record-of.result w.in-Some.record low c.record-of.ensures w.in-Some.is in
-          (omega (arith, w.sum-is, e, w.section-length-sum.ensures.long), omega (arith, w.sum-is, w.section-length-sum.ensures.few))
+          let e = length_more bs c.loop-s.s c.record_of.result w.in-Some.record low c.record_of.ensures w.in-Some.is in
+          (omega (arith, w.sum-is, e, w.section_length-sum.ensures.long), omega (arith, w.sum-is, w.section_length-sum.ensures.few))
       | in-default w ↦
-          let e = length_same bs c.loop-s.s c.record-of.result low c.record-of.ensures w.in-default.is in
+          let e = length_same bs c.loop-s.s c.record_of.result low c.record_of.ensures w.in-default.is in
           (omega (arith, w.sum-is, e), omega (arith, w.sum-is))
     ]
 

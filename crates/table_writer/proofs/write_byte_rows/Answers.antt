@@ -26,19 +26,19 @@ returns-in-err-at g c =
     let size : c.min-count.result ≡ min (length bs - c.loop-start.start) 16 = omega (arith, c.min-count.ensures, c.requires.size) in
     let w = ahead bs c.args.out.now c.loop-start.at c.loop-start.out c.loop-start.start c.min-count.result c.gather-row.result low size c.gather-row.ensures c.loop-start.invariant.0 in
     absurd
-    (accepted (bytes_text bs) c.args.out.now c.requires.room c.loop-start.at c.loop-start.out _ _ c.write-bytes.result c.in-err-at.field-0.0 w
-    c.write-bytes.ensures.answer
+    (accepted (bytes_text bs) c.args.out.now c.requires.room c.loop-start.at c.loop-start.out _ _ c.write_bytes.result c.in-err-at.field-0.0 w
+    c.write_bytes.ensures.answer
     c.in-err-at.was)
 
-pub overflow-add-at : goal.overflow-add-at
-overflow-add-at g c =
+pub overflow_add-at : goal.overflow_add-at
+overflow_add-at g c =
     let bs = bytes_in (section_of (g.G.SectionGraph.graph c.args.graph.now) c.args.s) in
     let low : c.loop-start.start < length bs = omega (arith, c.loop-start-test.true, c.requires.size) in
     let size : c.min-count.result ≡ min (length bs - c.loop-start.start) 16 = omega (arith, c.min-count.ensures, c.requires.size) in
     let w = ahead bs c.args.out.now c.loop-start.at c.loop-start.out c.loop-start.start c.min-count.result c.gather-row.result low size c.gather-row.ensures c.loop-start.invariant.0 in
     let h : c.loop-start.at + c.in-ok-at.field-0 ≤ length c.loop-start.out =
-    ends_inside (bytes_text bs) c.args.out.now c.requires.room c.loop-start.at c.loop-start.out _ _ c.write-bytes.result c.in-ok-at.field-0 w
-    c.write-bytes.ensures.answer
+    ends_inside (bytes_text bs) c.args.out.now c.requires.room c.loop-start.at c.loop-start.out _ _ c.write_bytes.result c.in-ok-at.field-0 w
+    c.write_bytes.ensures.answer
     c.in-ok-at.was in
     search rules
 
@@ -49,10 +49,10 @@ loop-start-preserved g c =
     let size : c.min-count.result ≡ min (length bs - c.loop-start.start) 16 = omega (arith, c.min-count.ensures, c.requires.size) in
     let a = ahead bs c.args.out.now c.loop-start.at c.loop-start.out c.loop-start.start c.min-count.result c.gather-row.result low size c.gather-row.ensures c.loop-start.invariant.0 in
     let n =
-    next (bytes_text bs) c.args.out.now c.requires.room c.loop-start.at c.loop-start.out _ _ c.write-bytes.result c.in-ok-at.field-0 c.write-bytes.new.out a
-    c.write-bytes.ensures.answer
+    next (bytes_text bs) c.args.out.now c.requires.room c.loop-start.at c.loop-start.out _ _ c.write_bytes.result c.in-ok-at.field-0 c.write_bytes.new.out a
+    c.write_bytes.ensures.answer
     c.in-ok-at.was
-    c.write-bytes.ensures.text in
+    c.write_bytes.ensures.text in
     (n, omega (arith, size, c.requires.size), inside (bytes_text bs) c.args.out.now _ _ _ n)
 
 pub returns : goal.returns

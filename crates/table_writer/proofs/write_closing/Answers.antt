@@ -19,8 +19,8 @@ one : (x : Graph) (b : List ℕ) (r : Result ℕ Fault) (n : ℕ) (last : List �
     → Written (closing_text x) b n last (render (end k) ++ [])
 one x b r n last k room e answer ok text = first (closing_text x) b room _ _ r n last (closing_parts x k e) answer ok text
 
-pub write-roots-requires : goal.write-roots-requires
-write-roots-requires g c =
+pub write_roots-requires : goal.write_roots-requires
+write_roots-requires g c =
     let x = g.G.SectionGraph.graph c.args.graph.now in
     record {
       sound = c.requires.sound;
@@ -31,57 +31,57 @@ pub returns-in-err-at : goal.returns-in-err-at
 returns-in-err-at g c =
     let x = g.G.SectionGraph.graph c.args.graph.now in
     absurd
-    (first_accepted (closing_text x) c.args.out.now c.requires.room _ _ c.write-roots.result c.in-err-at.field-0.0
+    (first_accepted (closing_text x) c.args.out.now c.requires.room _ _ c.write_roots.result c.in-err-at.field-0.0
     (closing_parts x (present_count x.sections) refl)
-    c.write-roots.ensures.answer
+    c.write_roots.ensures.answer
     c.in-err-at.was)
 
-pub slice-bounds-write-end-count : goal.slice-bounds-write-end-count
-slice-bounds-write-end-count g c =
+pub slice_bounds-write_end-count : goal.slice_bounds-write_end-count
+slice_bounds-write_end-count g c =
     let x = g.G.SectionGraph.graph c.args.graph.now in
     let w =
-    one x c.args.out.now c.write-roots.result c.in-ok-at.at c.write-roots.new.out c.present.result c.requires.room c.present.ensures
-    c.write-roots.ensures.answer
+    one x c.args.out.now c.write_roots.result c.in-ok-at.at c.write_roots.new.out c.present.result c.requires.room c.present.ensures
+    c.write_roots.ensures.answer
     c.in-ok-at.was
-    c.write-roots.ensures.text in
-    inside (closing_text x) c.args.out.now c.in-ok-at.at c.write-roots.new.out _ w
+    c.write_roots.ensures.text in
+    inside (closing_text x) c.args.out.now c.in-ok-at.at c.write_roots.new.out _ w
 
-pub slice-bounds-write-end-start : goal.slice-bounds-write-end-start
-slice-bounds-write-end-start g c =
+pub slice_bounds-write_end-start : goal.slice_bounds-write_end-start
+slice_bounds-write_end-start g c =
     let x = g.G.SectionGraph.graph c.args.graph.now in
     let w =
-    one x c.args.out.now c.write-roots.result c.in-ok-at.at c.write-roots.new.out c.present.result c.requires.room c.present.ensures
-    c.write-roots.ensures.answer
+    one x c.args.out.now c.write_roots.result c.in-ok-at.at c.write_roots.new.out c.present.result c.requires.room c.present.ensures
+    c.write_roots.ensures.answer
     c.in-ok-at.was
-    c.write-roots.ensures.text in
-    let h : c.in-ok-at.at ≤ length c.write-roots.new.out =
-    inside (closing_text x) c.args.out.now c.in-ok-at.at c.write-roots.new.out _ w in
+    c.write_roots.ensures.text in
+    let h : c.in-ok-at.at ≤ length c.write_roots.new.out =
+    inside (closing_text x) c.args.out.now c.in-ok-at.at c.write_roots.new.out _ w in
     search rules
 
 pub returns-in-err-at-2 : goal.returns-in-err-at-2
 returns-in-err-at-2 g c =
     let x = g.G.SectionGraph.graph c.args.graph.now in
     let w =
-    one x c.args.out.now c.write-roots.result c.in-ok-at.at c.write-roots.new.out c.present.result c.requires.room c.present.ensures
-    c.write-roots.ensures.answer
+    one x c.args.out.now c.write_roots.result c.in-ok-at.at c.write_roots.new.out c.present.result c.requires.room c.present.ensures
+    c.write_roots.ensures.answer
     c.in-ok-at.was
-    c.write-roots.ensures.text in
+    c.write_roots.ensures.text in
     absurd
-    (accepted (closing_text x) c.args.out.now c.requires.room c.in-ok-at.at c.write-roots.new.out _ _ c.write-end.result c.in-err-at-2.field-0.0 w
-    c.write-end.ensures.answer
+    (accepted (closing_text x) c.args.out.now c.requires.room c.in-ok-at.at c.write_roots.new.out _ _ c.write_end.result c.in-err-at-2.field-0.0 w
+    c.write_end.ensures.answer
     c.in-err-at-2.was)
 
-pub overflow-add-at : goal.overflow-add-at
-overflow-add-at g c =
+pub overflow_add-at : goal.overflow_add-at
+overflow_add-at g c =
     let x = g.G.SectionGraph.graph c.args.graph.now in
     let w =
-    one x c.args.out.now c.write-roots.result c.in-ok-at.at c.write-roots.new.out c.present.result c.requires.room c.present.ensures
-    c.write-roots.ensures.answer
+    one x c.args.out.now c.write_roots.result c.in-ok-at.at c.write_roots.new.out c.present.result c.requires.room c.present.ensures
+    c.write_roots.ensures.answer
     c.in-ok-at.was
-    c.write-roots.ensures.text in
-    let h : c.in-ok-at.at + c.in-ok-at-2.field-0 ≤ length c.write-roots.new.out =
-    ends_inside (closing_text x) c.args.out.now c.requires.room c.in-ok-at.at c.write-roots.new.out _ _ c.write-end.result c.in-ok-at-2.field-0 w
-    c.write-end.ensures.answer
+    c.write_roots.ensures.text in
+    let h : c.in-ok-at.at + c.in-ok-at-2.field-0 ≤ length c.write_roots.new.out =
+    ends_inside (closing_text x) c.args.out.now c.requires.room c.in-ok-at.at c.write_roots.new.out _ _ c.write_end.result c.in-ok-at-2.field-0 w
+    c.write_end.ensures.answer
     c.in-ok-at-2.was in
     search rules
 
@@ -89,14 +89,14 @@ pub returns : goal.returns
 returns g c =
     let x = g.G.SectionGraph.graph c.args.graph.now in
     let w =
-    one x c.args.out.now c.write-roots.result c.in-ok-at.at c.write-roots.new.out c.present.result c.requires.room c.present.ensures
-    c.write-roots.ensures.answer
+    one x c.args.out.now c.write_roots.result c.in-ok-at.at c.write_roots.new.out c.present.result c.requires.room c.present.ensures
+    c.write_roots.ensures.answer
     c.in-ok-at.was
-    c.write-roots.ensures.text in
+    c.write_roots.ensures.text in
     let n =
-    next (closing_text x) c.args.out.now c.requires.room c.in-ok-at.at c.write-roots.new.out _ _ c.write-end.result c.in-ok-at-2.field-0 c.write-end.new.out w
-    c.write-end.ensures.answer
+    next (closing_text x) c.args.out.now c.requires.room c.in-ok-at.at c.write_roots.new.out _ _ c.write_end.result c.in-ok-at-2.field-0 c.write_end.new.out w
+    c.write_end.ensures.answer
     c.in-ok-at-2.was
-    c.write-end.ensures.text in
+    c.write_end.ensures.text in
     let f = finish (closing_text x) c.args.out.now c.requires.room _ _ n in
     record { answer = f.0; text = f.1 }

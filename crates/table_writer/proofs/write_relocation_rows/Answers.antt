@@ -25,19 +25,19 @@ returns-in-err-at g c =
     let low : c.loop-j.j < length ts = omega (arith, c.loop-j-test.true, c.requires.count) in
     let w = ahead o c.args.out.now c.loop-j.at c.loop-j.out c.loop-j.j c.in-Some.relocation c.relocation.result low c.relocation.ensures c.in-Some.is c.loop-j.invariant.0 in
     absurd
-    (accepted (relocations_text ts) c.args.out.now c.requires.room c.loop-j.at c.loop-j.out _ _ c.write-relocation.result c.in-err-at.field-0.0 w
-    c.write-relocation.ensures.answer
+    (accepted (relocations_text ts) c.args.out.now c.requires.room c.loop-j.at c.loop-j.out _ _ c.write_relocation.result c.in-err-at.field-0.0 w
+    c.write_relocation.ensures.answer
     c.in-err-at.was)
 
-pub overflow-add-at : goal.overflow-add-at
-overflow-add-at g c =
+pub overflow_add-at : goal.overflow_add-at
+overflow_add-at g c =
     let o = section_of (g.G.SectionGraph.graph c.args.graph.now) c.args.s in
     let ts = relocations_in o in
     let low : c.loop-j.j < length ts = omega (arith, c.loop-j-test.true, c.requires.count) in
     let w = ahead o c.args.out.now c.loop-j.at c.loop-j.out c.loop-j.j c.in-Some.relocation c.relocation.result low c.relocation.ensures c.in-Some.is c.loop-j.invariant.0 in
     let h : c.loop-j.at + c.in-ok-at.field-0 ≤ length c.loop-j.out =
-    ends_inside (relocations_text ts) c.args.out.now c.requires.room c.loop-j.at c.loop-j.out _ _ c.write-relocation.result c.in-ok-at.field-0 w
-    c.write-relocation.ensures.answer
+    ends_inside (relocations_text ts) c.args.out.now c.requires.room c.loop-j.at c.loop-j.out _ _ c.write_relocation.result c.in-ok-at.field-0 w
+    c.write_relocation.ensures.answer
     c.in-ok-at.was in
     search rules
 
@@ -50,10 +50,10 @@ loop-j-preserved g c =
       | in-Some+in-ok-at w ↦
           let a = ahead o c.args.out.now c.loop-j.at c.loop-j.out c.loop-j.j w.in-Some.relocation c.relocation.result low c.relocation.ensures w.in-Some.is c.loop-j.invariant.0 in
           let n =
-          next (relocations_text ts) c.args.out.now c.requires.room c.loop-j.at c.loop-j.out _ _ w.write-relocation.result w.in-ok-at.field-0 w.write-relocation.new.out a
-          w.write-relocation.ensures.answer
+          next (relocations_text ts) c.args.out.now c.requires.room c.loop-j.at c.loop-j.out _ _ w.write_relocation.result w.in-ok-at.field-0 w.write_relocation.new.out a
+          w.write_relocation.ensures.answer
           w.in-ok-at.was
-          w.write-relocation.ensures.text in
+          w.write_relocation.ensures.text in
           let m = restated (relocations_text ts) c.args.out.now _ c.match-relocation.at _ c.match-relocation.out _ _ w.at-is w.out-is refl n in
           (m, inside (relocations_text ts) c.args.out.now c.match-relocation.at c.match-relocation.out _ m)
       | in-default w ↦ absurd (relocation_answered o c.loop-j.j c.relocation.result low c.relocation.ensures w.in-default.is)

@@ -20,36 +20,36 @@ ahead ts b at out j t r low told is w =
 pub returns-in-err-at : goal.returns-in-err-at
 returns-in-err-at g c =
     let ts = (g.G.SectionGraph.graph c.args.graph.now).roots in
-    let low : c.loop-j.j < length ts = omega (arith, c.loop-j-test.true, c.root-count-j-end.ensures) in
+    let low : c.loop-j.j < length ts = omega (arith, c.loop-j-test.true, c.root_count-j-end.ensures) in
     let w = ahead ts c.args.out.now c.loop-j.at c.loop-j.out c.loop-j.j c.in-Some.number c.root.result low c.root.ensures c.in-Some.is c.loop-j.invariant.0 in
     absurd
-    (accepted (roots_text ts) c.args.out.now c.requires.room c.loop-j.at c.loop-j.out _ _ c.write-root.result c.in-err-at.field-0.0 w
-    c.write-root.ensures.answer
+    (accepted (roots_text ts) c.args.out.now c.requires.room c.loop-j.at c.loop-j.out _ _ c.write_root.result c.in-err-at.field-0.0 w
+    c.write_root.ensures.answer
     c.in-err-at.was)
 
-pub overflow-add-at : goal.overflow-add-at
-overflow-add-at g c =
+pub overflow_add-at : goal.overflow_add-at
+overflow_add-at g c =
     let ts = (g.G.SectionGraph.graph c.args.graph.now).roots in
-    let low : c.loop-j.j < length ts = omega (arith, c.loop-j-test.true, c.root-count-j-end.ensures) in
+    let low : c.loop-j.j < length ts = omega (arith, c.loop-j-test.true, c.root_count-j-end.ensures) in
     let w = ahead ts c.args.out.now c.loop-j.at c.loop-j.out c.loop-j.j c.in-Some.number c.root.result low c.root.ensures c.in-Some.is c.loop-j.invariant.0 in
     let h : c.loop-j.at + c.in-ok-at.field-0 ≤ length c.loop-j.out =
-    ends_inside (roots_text ts) c.args.out.now c.requires.room c.loop-j.at c.loop-j.out _ _ c.write-root.result c.in-ok-at.field-0 w
-    c.write-root.ensures.answer
+    ends_inside (roots_text ts) c.args.out.now c.requires.room c.loop-j.at c.loop-j.out _ _ c.write_root.result c.in-ok-at.field-0 w
+    c.write_root.ensures.answer
     c.in-ok-at.was in
     search rules
 
 pub loop-j-preserved : goal.loop-j-preserved
 loop-j-preserved g c =
     let ts = (g.G.SectionGraph.graph c.args.graph.now).roots in
-    let low : c.loop-j.j < length ts = omega (arith, c.loop-j-test.true, c.root-count-j-end.ensures) in
+    let low : c.loop-j.j < length ts = omega (arith, c.loop-j-test.true, c.root_count-j-end.ensures) in
     elim c.match-root.branch [
       | in-Some+in-ok-at w ↦
           let a = ahead ts c.args.out.now c.loop-j.at c.loop-j.out c.loop-j.j w.in-Some.number c.root.result low c.root.ensures w.in-Some.is c.loop-j.invariant.0 in
           let n =
-          next (roots_text ts) c.args.out.now c.requires.room c.loop-j.at c.loop-j.out _ _ w.write-root.result w.in-ok-at.field-0 w.write-root.new.out a
-          w.write-root.ensures.answer
+          next (roots_text ts) c.args.out.now c.requires.room c.loop-j.at c.loop-j.out _ _ w.write_root.result w.in-ok-at.field-0 w.write_root.new.out a
+          w.write_root.ensures.answer
           w.in-ok-at.was
-          w.write-root.ensures.text in
+          w.write_root.ensures.text in
           let m = restated (roots_text ts) c.args.out.now _ c.match-root.at _ c.match-root.out _ _ w.at-is w.out-is refl n in
           (m, inside (roots_text ts) c.args.out.now c.match-root.at c.match-root.out _ m)
       | in-default w ↦ absurd (answered ts 0 c.loop-j.j c.root.result low c.root.ensures w.in-default.is)
@@ -58,7 +58,7 @@ loop-j-preserved g c =
 pub returns : goal.returns
 returns g c =
     let ts = (g.G.SectionGraph.graph c.args.graph.now).roots in
-    let past : length ts ≤ c.loop-j.j = omega (arith, c.loop-j-test.false, c.root-count-j-end.ensures) in
+    let past : length ts ≤ c.loop-j.j = omega (arith, c.loop-j-test.false, c.root_count-j-end.ensures) in
     let w = restated (roots_text ts) c.args.out.now c.loop-j.at c.loop-j.at c.loop-j.out c.loop-j.out _ _ refl refl (roots_all ts c.loop-j.j past) c.loop-j.invariant.0 in
     let f = finish (roots_text ts) c.args.out.now c.requires.room c.loop-j.at c.loop-j.out w in
     record { answer = f.0; text = f.1 }

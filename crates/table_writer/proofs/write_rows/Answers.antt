@@ -15,17 +15,17 @@ one : (g : given.Over) (c : goal.In-ok-at g)
     (text_of (g.G.SectionGraph.graph c.args.graph.now))
     c.args.out.now
     c.in-ok-at.at
-    c.write-header.new.out
+    c.write_header.new.out
     (sections_text 0 (g.G.SectionGraph.graph c.args.graph.now).sections
     ++ (closing_text (g.G.SectionGraph.graph c.args.graph.now) ++ []))
 one g c =
     let x = g.G.SectionGraph.graph c.args.graph.now in
     let parts = table_parts x c.count.result c.root_count.result c.count.ensures c.root_count.ensures in
-    first (text_of x) c.args.out.now c.requires.room _ _ c.write-header.result c.in-ok-at.at c.write-header.new.out
+    first (text_of x) c.args.out.now c.requires.room _ _ c.write_header.result c.in-ok-at.at c.write_header.new.out
     parts
-    c.write-header.ensures.answer
+    c.write_header.ensures.answer
     c.in-ok-at.was
-    c.write-header.ensures.text
+    c.write_header.ensures.text
 
 -- the rows of the sections are written too
 two : (g : given.Over) (c : goal.In-ok-at-2 g)
@@ -33,91 +33,91 @@ two : (g : given.Over) (c : goal.In-ok-at-2 g)
     (text_of (g.G.SectionGraph.graph c.args.graph.now))
     c.args.out.now
     (c.in-ok-at.at + c.in-ok-at-2.field-0)
-    (put_mid c.in-ok-at.at (length c.write-header.new.out - c.in-ok-at.at) c.write-header.new.out c.write-sections.new.out)
+    (put_mid c.in-ok-at.at (length c.write_header.new.out - c.in-ok-at.at) c.write_header.new.out c.write_sections.new.out)
     (closing_text (g.G.SectionGraph.graph c.args.graph.now) ++ [])
 two g c =
     let x = g.G.SectionGraph.graph c.args.graph.now in
-    next (text_of x) c.args.out.now c.requires.room c.in-ok-at.at c.write-header.new.out _ _ c.write-sections.result c.in-ok-at-2.field-0 c.write-sections.new.out
-    (one g (goal.at.overflow-add-at g c).In-ok-at)
-    c.write-sections.ensures.answer
+    next (text_of x) c.args.out.now c.requires.room c.in-ok-at.at c.write_header.new.out _ _ c.write_sections.result c.in-ok-at-2.field-0 c.write_sections.new.out
+    (one g (goal.at.overflow_add-at g c).In-ok-at)
+    c.write_sections.ensures.answer
     c.in-ok-at-2.was
-    c.write-sections.ensures.text
+    c.write_sections.ensures.text
 
 pub returns-in-err-at : goal.returns-in-err-at
 returns-in-err-at g c =
     let x = g.G.SectionGraph.graph c.args.graph.now in
     let parts = table_parts x c.count.result c.root_count.result c.count.ensures c.root_count.ensures in
     absurd
-    (first_accepted (text_of x) c.args.out.now c.requires.room _ _ c.write-header.result c.in-err-at.field-0.0 parts c.write-header.ensures.answer c.in-err-at.was)
+    (first_accepted (text_of x) c.args.out.now c.requires.room _ _ c.write_header.result c.in-err-at.field-0.0 parts c.write_header.ensures.answer c.in-err-at.was)
 
-pub slice-bounds-write-sections-count : goal.slice-bounds-write-sections-count
-slice-bounds-write-sections-count g c = inside _ _ _ _ _ (one g c)
+pub slice_bounds-write_sections-count : goal.slice_bounds-write_sections-count
+slice_bounds-write_sections-count g c = inside _ _ _ _ _ (one g c)
 
-pub slice-bounds-write-sections-start : goal.slice-bounds-write-sections-start
-slice-bounds-write-sections-start g c =
-    let h : c.in-ok-at.at ≤ length c.write-header.new.out = inside _ _ _ _ _ (one g c) in search rules
+pub slice_bounds-write_sections-start : goal.slice_bounds-write_sections-start
+slice_bounds-write_sections-start g c =
+    let h : c.in-ok-at.at ≤ length c.write_header.new.out = inside _ _ _ _ _ (one g c) in search rules
 
-pub write-sections-requires : goal.write-sections-requires
-write-sections-requires g c =
+pub write_sections-requires : goal.write_sections-requires
+write_sections-requires g c =
     let x = g.G.SectionGraph.graph c.args.graph.now in
     record {
       sound = c.requires.sound;
       room =
-          lent_room (text_of x) c.args.out.now c.requires.room c.in-ok-at.at c.write-header.new.out _ _
-          (one g (goal.at.write-sections-requires g c).In-ok-at);
+          lent_room (text_of x) c.args.out.now c.requires.room c.in-ok-at.at c.write_header.new.out _ _
+          (one g (goal.at.write_sections-requires g c).In-ok-at);
     }
 
 pub returns-in-err-at-2 : goal.returns-in-err-at-2
 returns-in-err-at-2 g c =
     let x = g.G.SectionGraph.graph c.args.graph.now in
     absurd
-    (accepted (text_of x) c.args.out.now c.requires.room c.in-ok-at.at c.write-header.new.out _ _ c.write-sections.result c.in-err-at-2.field-0.0
+    (accepted (text_of x) c.args.out.now c.requires.room c.in-ok-at.at c.write_header.new.out _ _ c.write_sections.result c.in-err-at-2.field-0.0
     (one g (goal.at.returns-in-err-at-2 g c).In-ok-at)
-    c.write-sections.ensures.answer
+    c.write_sections.ensures.answer
     c.in-err-at-2.was)
 
-pub overflow-add-at : goal.overflow-add-at
-overflow-add-at g c =
+pub overflow_add-at : goal.overflow_add-at
+overflow_add-at g c =
     let x = g.G.SectionGraph.graph c.args.graph.now in
-    let h : c.in-ok-at.at + c.in-ok-at-2.field-0 ≤ length c.write-header.new.out =
-    ends_inside (text_of x) c.args.out.now c.requires.room c.in-ok-at.at c.write-header.new.out _ _ c.write-sections.result c.in-ok-at-2.field-0
-    (one g (goal.at.overflow-add-at g c).In-ok-at)
-    c.write-sections.ensures.answer
+    let h : c.in-ok-at.at + c.in-ok-at-2.field-0 ≤ length c.write_header.new.out =
+    ends_inside (text_of x) c.args.out.now c.requires.room c.in-ok-at.at c.write_header.new.out _ _ c.write_sections.result c.in-ok-at-2.field-0
+    (one g (goal.at.overflow_add-at g c).In-ok-at)
+    c.write_sections.ensures.answer
     c.in-ok-at-2.was in
     search rules
 
-pub slice-bounds-write-closing-count : goal.slice-bounds-write-closing-count
-slice-bounds-write-closing-count g c = inside _ _ _ _ _ (two g c)
+pub slice_bounds-write_closing-count : goal.slice_bounds-write_closing-count
+slice_bounds-write_closing-count g c = inside _ _ _ _ _ (two g c)
 
-pub slice-bounds-write-closing-start : goal.slice-bounds-write-closing-start
-slice-bounds-write-closing-start g c = let h = inside _ _ _ _ _ (two g c) in search rules
+pub slice_bounds-write_closing-start : goal.slice_bounds-write_closing-start
+slice_bounds-write_closing-start g c = let h = inside _ _ _ _ _ (two g c) in search rules
 
-pub write-closing-requires : goal.write-closing-requires
-write-closing-requires g c =
+pub write_closing-requires : goal.write_closing-requires
+write_closing-requires g c =
     let x = g.G.SectionGraph.graph c.args.graph.now in
     record {
       sound = c.requires.sound;
       room =
           lent_room (text_of x) c.args.out.now c.requires.room _ _ _ _
-          (two g (goal.at.write-closing-requires g c).In-ok-at-2);
+          (two g (goal.at.write_closing-requires g c).In-ok-at-2);
     }
 
 pub returns-in-err-at-3 : goal.returns-in-err-at-3
 returns-in-err-at-3 g c =
     let x = g.G.SectionGraph.graph c.args.graph.now in
     absurd
-    (accepted (text_of x) c.args.out.now c.requires.room _ _ _ _ c.write-closing.result c.in-err-at-3.field-0.0
+    (accepted (text_of x) c.args.out.now c.requires.room _ _ _ _ c.write_closing.result c.in-err-at-3.field-0.0
     (two g (goal.at.returns-in-err-at-3 g c).In-ok-at-2)
-    c.write-closing.ensures.answer
+    c.write_closing.ensures.answer
     c.in-err-at-3.was)
 
-pub overflow-add-at-2 : goal.overflow-add-at-2
-overflow-add-at-2 g c =
+pub overflow_add-at-2 : goal.overflow_add-at-2
+overflow_add-at-2 g c =
     let x = g.G.SectionGraph.graph c.args.graph.now in
     let h =
-    ends_inside (text_of x) c.args.out.now c.requires.room _ _ _ _ c.write-closing.result c.in-ok-at-3.field-0
-    (two g (goal.at.overflow-add-at-2 g c).In-ok-at-2)
-    c.write-closing.ensures.answer
+    ends_inside (text_of x) c.args.out.now c.requires.room _ _ _ _ c.write_closing.result c.in-ok-at-3.field-0
+    (two g (goal.at.overflow_add-at-2 g c).In-ok-at-2)
+    c.write_closing.ensures.answer
     c.in-ok-at-3.was in
     search rules
 
@@ -125,10 +125,10 @@ pub returns : goal.returns
 returns g c =
     let x = g.G.SectionGraph.graph c.args.graph.now in
     let w =
-    next (text_of x) c.args.out.now c.requires.room _ _ _ _ c.write-closing.result c.in-ok-at-3.field-0 c.write-closing.new.out
+    next (text_of x) c.args.out.now c.requires.room _ _ _ _ c.write_closing.result c.in-ok-at-3.field-0 c.write_closing.new.out
     (two g (goal.at.returns g c).In-ok-at-2)
-    c.write-closing.ensures.answer
+    c.write_closing.ensures.answer
     c.in-ok-at-3.was
-    c.write-closing.ensures.text in
+    c.write_closing.ensures.text in
     let f = finish (text_of x) c.args.out.now c.requires.room _ _ w in
     record { answer = f.0; text = f.1 }

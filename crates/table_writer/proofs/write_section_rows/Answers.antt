@@ -15,17 +15,17 @@ one : (g : given.Over) (c : goal.In-ok-at g)
     (section_text c.args.s (section_of (g.G.SectionGraph.graph c.args.graph.now) c.args.s))
     c.args.out.now
     c.in-ok-at.at
-    c.write-section.new.out
+    c.write_section.new.out
     (bytes_text (bytes_in (section_of (g.G.SectionGraph.graph c.args.graph.now) c.args.s))
     ++ (relocations_text (relocations_in (section_of (g.G.SectionGraph.graph c.args.graph.now) c.args.s)) ++ []))
 one g c =
     let o = section_of (g.G.SectionGraph.graph c.args.graph.now) c.args.s in
     let parts = section_told c.args.s o c.args.record.now c.requires.told in
-    first (section_text c.args.s o) c.args.out.now c.requires.room _ _ c.write-section.result c.in-ok-at.at c.write-section.new.out
+    first (section_text c.args.s o) c.args.out.now c.requires.room _ _ c.write_section.result c.in-ok-at.at c.write_section.new.out
     (sym parts.0)
-    c.write-section.ensures.answer
+    c.write_section.ensures.answer
     c.in-ok-at.was
-    c.write-section.ensures.text
+    c.write_section.ensures.text
 
 -- the rows of the bytes are written too
 two : (g : given.Over) (c : goal.In-ok-at-2 g)
@@ -33,69 +33,69 @@ two : (g : given.Over) (c : goal.In-ok-at-2 g)
     (section_text c.args.s (section_of (g.G.SectionGraph.graph c.args.graph.now) c.args.s))
     c.args.out.now
     (c.in-ok-at.at + c.in-ok-at-2.field-0)
-    (put_mid c.in-ok-at.at (length c.write-section.new.out - c.in-ok-at.at) c.write-section.new.out c.write-byte-rows.new.out)
+    (put_mid c.in-ok-at.at (length c.write_section.new.out - c.in-ok-at.at) c.write_section.new.out c.write_byte_rows.new.out)
     (relocations_text (relocations_in (section_of (g.G.SectionGraph.graph c.args.graph.now) c.args.s)) ++ [])
 two g c =
     let o = section_of (g.G.SectionGraph.graph c.args.graph.now) c.args.s in
-    next (section_text c.args.s o) c.args.out.now c.requires.room c.in-ok-at.at c.write-section.new.out _ _ c.write-byte-rows.result c.in-ok-at-2.field-0 c.write-byte-rows.new.out
-    (one g (goal.at.overflow-add-at g c).In-ok-at)
-    c.write-byte-rows.ensures.answer
+    next (section_text c.args.s o) c.args.out.now c.requires.room c.in-ok-at.at c.write_section.new.out _ _ c.write_byte_rows.result c.in-ok-at-2.field-0 c.write_byte_rows.new.out
+    (one g (goal.at.overflow_add-at g c).In-ok-at)
+    c.write_byte_rows.ensures.answer
     c.in-ok-at-2.was
-    c.write-byte-rows.ensures.text
+    c.write_byte_rows.ensures.text
 
 pub returns-in-err-at : goal.returns-in-err-at
 returns-in-err-at g c =
     let o = section_of (g.G.SectionGraph.graph c.args.graph.now) c.args.s in
     let parts = section_told c.args.s o c.args.record.now c.requires.told in
     absurd
-    (first_accepted (section_text c.args.s o) c.args.out.now c.requires.room _ _ c.write-section.result c.in-err-at.field-0.0 (sym parts.0) c.write-section.ensures.answer c.in-err-at.was)
+    (first_accepted (section_text c.args.s o) c.args.out.now c.requires.room _ _ c.write_section.result c.in-err-at.field-0.0 (sym parts.0) c.write_section.ensures.answer c.in-err-at.was)
 
-pub slice-bounds-write-byte-rows-count : goal.slice-bounds-write-byte-rows-count
-slice-bounds-write-byte-rows-count g c = inside _ _ _ _ _ (one g c)
+pub slice_bounds-write_byte_rows-count : goal.slice_bounds-write_byte_rows-count
+slice_bounds-write_byte_rows-count g c = inside _ _ _ _ _ (one g c)
 
-pub slice-bounds-write-byte-rows-start : goal.slice-bounds-write-byte-rows-start
-slice-bounds-write-byte-rows-start g c =
-    let h : c.in-ok-at.at ≤ length c.write-section.new.out = inside _ _ _ _ _ (one g c) in search rules
+pub slice_bounds-write_byte_rows-start : goal.slice_bounds-write_byte_rows-start
+slice_bounds-write_byte_rows-start g c =
+    let h : c.in-ok-at.at ≤ length c.write_section.new.out = inside _ _ _ _ _ (one g c) in search rules
 
-pub write-byte-rows-requires : goal.write-byte-rows-requires
-write-byte-rows-requires g c =
+pub write_byte_rows-requires : goal.write_byte_rows-requires
+write_byte_rows-requires g c =
     let o = section_of (g.G.SectionGraph.graph c.args.graph.now) c.args.s in
     let parts = section_told c.args.s o c.args.record.now c.requires.told in
     record {
       sound = c.requires.sound;
       size = parts.1;
       room =
-          lent_room (section_text c.args.s o) c.args.out.now c.requires.room c.in-ok-at.at c.write-section.new.out _ _
-          (one g (goal.at.write-byte-rows-requires g c).In-ok-at);
+          lent_room (section_text c.args.s o) c.args.out.now c.requires.room c.in-ok-at.at c.write_section.new.out _ _
+          (one g (goal.at.write_byte_rows-requires g c).In-ok-at);
     }
 
 pub returns-in-err-at-2 : goal.returns-in-err-at-2
 returns-in-err-at-2 g c =
     let o = section_of (g.G.SectionGraph.graph c.args.graph.now) c.args.s in
     absurd
-    (accepted (section_text c.args.s o) c.args.out.now c.requires.room c.in-ok-at.at c.write-section.new.out _ _ c.write-byte-rows.result c.in-err-at-2.field-0.0
+    (accepted (section_text c.args.s o) c.args.out.now c.requires.room c.in-ok-at.at c.write_section.new.out _ _ c.write_byte_rows.result c.in-err-at-2.field-0.0
     (one g (goal.at.returns-in-err-at-2 g c).In-ok-at)
-    c.write-byte-rows.ensures.answer
+    c.write_byte_rows.ensures.answer
     c.in-err-at-2.was)
 
-pub overflow-add-at : goal.overflow-add-at
-overflow-add-at g c =
+pub overflow_add-at : goal.overflow_add-at
+overflow_add-at g c =
     let o = section_of (g.G.SectionGraph.graph c.args.graph.now) c.args.s in
-    let h : c.in-ok-at.at + c.in-ok-at-2.field-0 ≤ length c.write-section.new.out =
-    ends_inside (section_text c.args.s o) c.args.out.now c.requires.room c.in-ok-at.at c.write-section.new.out _ _ c.write-byte-rows.result c.in-ok-at-2.field-0
-    (one g (goal.at.overflow-add-at g c).In-ok-at)
-    c.write-byte-rows.ensures.answer
+    let h : c.in-ok-at.at + c.in-ok-at-2.field-0 ≤ length c.write_section.new.out =
+    ends_inside (section_text c.args.s o) c.args.out.now c.requires.room c.in-ok-at.at c.write_section.new.out _ _ c.write_byte_rows.result c.in-ok-at-2.field-0
+    (one g (goal.at.overflow_add-at g c).In-ok-at)
+    c.write_byte_rows.ensures.answer
     c.in-ok-at-2.was in
     search rules
 
-pub slice-bounds-write-relocation-rows-count : goal.slice-bounds-write-relocation-rows-count
-slice-bounds-write-relocation-rows-count g c = inside _ _ _ _ _ (two g c)
+pub slice_bounds-write_relocation_rows-count : goal.slice_bounds-write_relocation_rows-count
+slice_bounds-write_relocation_rows-count g c = inside _ _ _ _ _ (two g c)
 
-pub slice-bounds-write-relocation-rows-start : goal.slice-bounds-write-relocation-rows-start
-slice-bounds-write-relocation-rows-start g c = let h = inside _ _ _ _ _ (two g c) in search rules
+pub slice_bounds-write_relocation_rows-start : goal.slice_bounds-write_relocation_rows-start
+slice_bounds-write_relocation_rows-start g c = let h = inside _ _ _ _ _ (two g c) in search rules
 
-pub write-relocation-rows-requires : goal.write-relocation-rows-requires
-write-relocation-rows-requires g c =
+pub write_relocation_rows-requires : goal.write_relocation_rows-requires
+write_relocation_rows-requires g c =
     let o = section_of (g.G.SectionGraph.graph c.args.graph.now) c.args.s in
     let parts = section_told c.args.s o c.args.record.now c.requires.told in
     record {
@@ -103,25 +103,25 @@ write-relocation-rows-requires g c =
       count = parts.2;
       room =
           lent_room (section_text c.args.s o) c.args.out.now c.requires.room _ _ _ _
-          (two g (goal.at.write-relocation-rows-requires g c).In-ok-at-2);
+          (two g (goal.at.write_relocation_rows-requires g c).In-ok-at-2);
     }
 
 pub returns-in-err-at-3 : goal.returns-in-err-at-3
 returns-in-err-at-3 g c =
     let o = section_of (g.G.SectionGraph.graph c.args.graph.now) c.args.s in
     absurd
-    (accepted (section_text c.args.s o) c.args.out.now c.requires.room _ _ _ _ c.write-relocation-rows.result c.in-err-at-3.field-0.0
+    (accepted (section_text c.args.s o) c.args.out.now c.requires.room _ _ _ _ c.write_relocation_rows.result c.in-err-at-3.field-0.0
     (two g (goal.at.returns-in-err-at-3 g c).In-ok-at-2)
-    c.write-relocation-rows.ensures.answer
+    c.write_relocation_rows.ensures.answer
     c.in-err-at-3.was)
 
-pub overflow-add-at-2 : goal.overflow-add-at-2
-overflow-add-at-2 g c =
+pub overflow_add-at-2 : goal.overflow_add-at-2
+overflow_add-at-2 g c =
     let o = section_of (g.G.SectionGraph.graph c.args.graph.now) c.args.s in
     let h =
-    ends_inside (section_text c.args.s o) c.args.out.now c.requires.room _ _ _ _ c.write-relocation-rows.result c.in-ok-at-3.field-0
-    (two g (goal.at.overflow-add-at-2 g c).In-ok-at-2)
-    c.write-relocation-rows.ensures.answer
+    ends_inside (section_text c.args.s o) c.args.out.now c.requires.room _ _ _ _ c.write_relocation_rows.result c.in-ok-at-3.field-0
+    (two g (goal.at.overflow_add-at-2 g c).In-ok-at-2)
+    c.write_relocation_rows.ensures.answer
     c.in-ok-at-3.was in
     search rules
 
@@ -129,10 +129,10 @@ pub returns : goal.returns
 returns g c =
     let o = section_of (g.G.SectionGraph.graph c.args.graph.now) c.args.s in
     let w =
-    next (section_text c.args.s o) c.args.out.now c.requires.room _ _ _ _ c.write-relocation-rows.result c.in-ok-at-3.field-0 c.write-relocation-rows.new.out
+    next (section_text c.args.s o) c.args.out.now c.requires.room _ _ _ _ c.write_relocation_rows.result c.in-ok-at-3.field-0 c.write_relocation_rows.new.out
     (two g (goal.at.returns g c).In-ok-at-2)
-    c.write-relocation-rows.ensures.answer
+    c.write_relocation_rows.ensures.answer
     c.in-ok-at-3.was
-    c.write-relocation-rows.ensures.text in
+    c.write_relocation_rows.ensures.text in
     let f = finish (section_text c.args.s o) c.args.out.now c.requires.room _ _ w in
     record { answer = f.0; text = f.1 }

@@ -19,18 +19,18 @@ returns-in-err-at g c =
     let low : c.loop-s.s < length ts = omega (arith, c.loop-s-test.true, c.count-s-end.ensures) in
     let w = ahead ts c.args.out.now c.loop-s.at c.loop-s.out c.loop-s.s low c.loop-s.invariant.0 in
     absurd
-    (accepted (sections_text 0 ts) c.args.out.now c.requires.room c.loop-s.at c.loop-s.out _ _ c.write-section-rows.result c.in-err-at.field-0.0 w
-    c.write-section-rows.ensures.answer
+    (accepted (sections_text 0 ts) c.args.out.now c.requires.room c.loop-s.at c.loop-s.out _ _ c.write_section_rows.result c.in-err-at.field-0.0 w
+    c.write_section_rows.ensures.answer
     c.in-err-at.was)
 
-pub overflow-add-at : goal.overflow-add-at
-overflow-add-at g c =
+pub overflow_add-at : goal.overflow_add-at
+overflow_add-at g c =
     let ts = (g.G.SectionGraph.graph c.args.graph.now).sections in
     let low : c.loop-s.s < length ts = omega (arith, c.loop-s-test.true, c.count-s-end.ensures) in
     let w = ahead ts c.args.out.now c.loop-s.at c.loop-s.out c.loop-s.s low c.loop-s.invariant.0 in
     let h : c.loop-s.at + c.in-ok-at.field-0 ≤ length c.loop-s.out =
-    ends_inside (sections_text 0 ts) c.args.out.now c.requires.room c.loop-s.at c.loop-s.out _ _ c.write-section-rows.result c.in-ok-at.field-0 w
-    c.write-section-rows.ensures.answer
+    ends_inside (sections_text 0 ts) c.args.out.now c.requires.room c.loop-s.at c.loop-s.out _ _ c.write_section_rows.result c.in-ok-at.field-0 w
+    c.write_section_rows.ensures.answer
     c.in-ok-at.was in
     search rules
 
@@ -38,22 +38,22 @@ pub loop-s-preserved : goal.loop-s-preserved
 loop-s-preserved g c =
     let ts = (g.G.SectionGraph.graph c.args.graph.now).sections in
     let low : c.loop-s.s < length ts = omega (arith, c.loop-s-test.true, c.count-s-end.ensures) in
-    elim c.match-record-of.branch [
+    elim c.match-record_of.branch [
       | in-Some+in-ok-at w ↦
           let a = ahead ts c.args.out.now c.loop-s.at c.loop-s.out c.loop-s.s low c.loop-s.invariant.0 in
           let n =
-          next (sections_text 0 ts) c.args.out.now c.requires.room c.loop-s.at c.loop-s.out _ _ w.write-section-rows.result w.in-ok-at.field-0 w.write-section-rows.new.out a
-          w.write-section-rows.ensures.answer
+          next (sections_text 0 ts) c.args.out.now c.requires.room c.loop-s.at c.loop-s.out _ _ w.write_section_rows.result w.in-ok-at.field-0 w.write_section_rows.new.out a
+          w.write_section_rows.ensures.answer
           w.in-ok-at.was
-          w.write-section-rows.ensures.text in
-          let m = restated (sections_text 0 ts) c.args.out.now _ c.match-record-of.at _ c.match-record-of.out _ _ w.at-is w.out-is refl n in
-          (m, inside (sections_text 0 ts) c.args.out.now c.match-record-of.at c.match-record-of.out _ m)
+          w.write_section_rows.ensures.text in
+          let m = restated (sections_text 0 ts) c.args.out.now _ c.match-record_of.at _ c.match-record_of.out _ _ w.at-is w.out-is refl n in
+          (m, inside (sections_text 0 ts) c.args.out.now c.match-record_of.at c.match-record_of.out _ m)
       | in-default w ↦
           let m =
-          restated (sections_text 0 ts) c.args.out.now _ c.match-record-of.at _ c.match-record-of.out _ _ w.at-is w.out-is
-          (section_absent ts c.loop-s.s c.record-of.result low c.record-of.ensures w.in-default.is)
+          restated (sections_text 0 ts) c.args.out.now _ c.match-record_of.at _ c.match-record_of.out _ _ w.at-is w.out-is
+          (section_absent ts c.loop-s.s c.record_of.result low c.record_of.ensures w.in-default.is)
           c.loop-s.invariant.0 in
-          (m, inside (sections_text 0 ts) c.args.out.now c.match-record-of.at c.match-record-of.out _ m)
+          (m, inside (sections_text 0 ts) c.args.out.now c.match-record_of.at c.match-record_of.out _ m)
     ]
 
 pub returns : goal.returns
@@ -64,13 +64,13 @@ returns g c =
     let f = finish (sections_text 0 ts) c.args.out.now c.requires.room c.loop-s.at c.loop-s.out w in
     record { answer = f.0; text = f.1 }
 
-pub write-section-rows-requires : goal.write-section-rows-requires
-write-section-rows-requires g c =
+pub write_section_rows-requires : goal.write_section_rows-requires
+write_section_rows-requires g c =
     let ts = (g.G.SectionGraph.graph c.args.graph.now).sections in
     let low : c.loop-s.s < length ts = omega (arith, c.loop-s-test.true, c.count-s-end.ensures) in
     let w = ahead ts c.args.out.now c.loop-s.at c.loop-s.out c.loop-s.s low c.loop-s.invariant.0 in
     record {
       sound = c.requires.sound;
-      told = sym c.record-of.ensures ∙ c.in-Some.is;
+      told = sym c.record_of.ensures ∙ c.in-Some.is;
       room = lent_room (sections_text 0 ts) c.args.out.now c.requires.room c.loop-s.at c.loop-s.out _ _ w;
     }

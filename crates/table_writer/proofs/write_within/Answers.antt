@@ -9,7 +9,7 @@ returns-then-out-needed g c =
     let x = g.G.SectionGraph.graph c.args.graph.now in
     record {
       answer =
-          ap (λ f. Err f) (c.too-small.ensures ∙ ap small c.requires.long)
+          ap (λ f. Err f) (c.too_small.ensures ∙ ap small c.requires.long)
           ∙ sym (wrote_short (text_of x) c.args.out.now (omega (arith, c.requires.long, c.if-out-needed.true)));
       text = sym (put_short (text_of x) c.args.out.now (omega (arith, c.requires.long, c.if-out-needed.true)));
     }

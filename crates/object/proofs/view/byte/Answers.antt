@@ -34,8 +34,8 @@ returns-then-h-eq8 c =
     in let kind = ap (λ (x : Header). x.kind) at.2
     in sym (ap (λ (o : Option Body). told_byte o c.args.i) (shown_body b c.args.s at.0 at.1) ∙ byte_zero b (section b c.args.s) c.args.i (omega arith) (omega arith))
 
-pub overflow-add-result : goal.overflow-add-result
-overflow-add-result c =
+pub overflow_add-result : goal.overflow_add-result
+overflow_add-result c =
     let b = c.args.b.now
     in let at = shown_some b c.args.s c.in-Some.h c.in-Some.ensures
     in let w = sound b c.args.s (held_facts b c.args.s c.requires at.0) at.0 at.1
@@ -67,7 +67,7 @@ returns-else-h-eq8 c =
     in let size = ap (λ (x : Header). x.size) at.2
     in let kind = ap (λ (x : Header). x.kind) at.2
     in let x : ℕ = get_or b ((section b c.args.s).offset + c.args.i) 0
-    in let small : x < 256 = (c.type-inv.b ((section b c.args.s).offset + c.args.i)).fits
+    in let small : x < 256 = (c.type_inv.b ((section b c.args.s).offset + c.args.i)).fits
     in let same : x ≡ low x = omega arith
     in ap (λ (h : Header). Some (get_or b (h.offset + c.args.i) 0)) at.2
     ∙ (ap Some same

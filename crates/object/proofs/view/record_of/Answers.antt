@@ -19,8 +19,8 @@ use Rattle.object.specs.Lawful.{aligned_small}
 use Rattle.object.proofs.view.record_of.Goals as goal
 use Rattle.object.proofs.view.record_of.Goals.{then-h-eq0, else-h-eq0}
 
-pub relocation-count-relocations-requires : goal.relocation-count-relocations-requires
-relocation-count-relocations-requires c =
+pub relocation_count-relocations-requires : goal.relocation_count-relocations-requires
+relocation_count-relocations-requires c =
     let at = shown_some c.args.b.now c.args.s c.in-Some.h c.in-Some.ensures
     in (c.requires.0, (c.requires.1, at.0))
 
@@ -30,19 +30,19 @@ setting-setting-requires c =
     in let few = held_few c.args.b.now c.requires.0
     in omega (arith, at.0)
 
-pub overflow-sub-flags : goal.overflow-sub-flags
-overflow-sub-flags c = and_le_l c.in-Some.h.flags 512
+pub overflow_sub-flags : goal.overflow_sub-flags
+overflow_sub-flags c = and_le_l c.in-Some.h.flags 512
 
-pub overflow-cast-result : goal.overflow-cast-result
-overflow-cast-result c =
+pub overflow_cast-result : goal.overflow_cast-result
+overflow_cast-result c =
     let b = c.args.b.now
     in let at = shown_some b c.args.s c.in-Some.h c.in-Some.ensures
     in let w = sound b c.args.s (held_facts b c.args.s c.requires.0 at.0) at.0 at.1
     in let flags = ap (λ (x : Header). x.flags) at.2
     in record { fits = omega (arith, w.flags, flags) }
 
-pub overflow-cast-result-in-Some : goal.overflow-cast-result-in-Some
-overflow-cast-result-in-Some c =
+pub overflow_cast-result-in-Some : goal.overflow_cast-result-in-Some
+overflow_cast-result-in-Some c =
     let b = c.args.b.now
     in let at = shown_some b c.args.s c.in-Some.h c.in-Some.ensures
     in let w = sound b c.args.s (held_facts b c.args.s c.requires.0 at.0) at.0 at.1
@@ -53,8 +53,8 @@ overflow-cast-result-in-Some c =
       | else-h-eq0 y ↦ record { fits = omega (arith, y.alignment-is, alignment, small) }
     ]
 
-pub overflow-cast-result-in-Some-2 : goal.overflow-cast-result-in-Some-2
-overflow-cast-result-in-Some-2 c =
+pub overflow_cast-result-in-Some-2 : goal.overflow_cast-result-in-Some-2
+overflow_cast-result-in-Some-2 c =
     let b = c.args.b.now
     in let at = shown_some b c.args.s c.in-Some.h c.in-Some.ensures
     in let w = sound b c.args.s (held_facts b c.args.s c.requires.0 at.0) at.0 at.1
@@ -75,8 +75,8 @@ returns-after-h-eq0 c =
       | then-h-eq0 y ↦ y.alignment-is ∙ sym (ap (λ (t : Bool). cond t 1 (section b c.args.s).alignment) (eq-eqb (section b c.args.s).alignment 0 (sym (ap (λ (x : Header). x.alignment) at.2) ∙ y.if-h-eq0.true)))
       | else-h-eq0 y ↦ y.alignment-is ∙ (ap (λ (x : Header). x.alignment) at.2 ∙ sym (ap (λ (t : Bool). cond t 1 (section b c.args.s).alignment) (ne_eqb (section b c.args.s).alignment 0 (λ z. y.if-h-eq0.false (ap (λ (x : Header). x.alignment) at.2 ∙ z)))))
     ]
-    in record_is b c.args.s _ c.if-h-eq0.alignment _ c.relocation-count-relocations.result c.setting-setting.result at.0 at.1
+    in record_is b c.args.s _ c.if-h-eq0.alignment _ c.relocation_count-relocations.result c.setting-setting.result at.0 at.1
     (ap flags_of at.2) alignment
     (ap (λ (x : Header). x.size) at.2 ∙ sym (bytes_length b (section b c.args.s) w))
-    c.relocation-count-relocations.ensures
+    c.relocation_count-relocations.ensures
     (setting_is b c.args.x.now c.args.s c.in-Some.h c.setting-setting.result c.requires.1 (omega (arith, at.0)) at.2 c.setting-setting.ensures)

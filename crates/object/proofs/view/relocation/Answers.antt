@@ -18,8 +18,8 @@ use Rattle.object.specs.Meaning.{low, alignment_of, flags_of}
 use Rattle.object.specs.Lawful.{aligned_small}
 use Rattle.object.proofs.view.relocation.Goals as goal
 
-pub part-header-requires : goal.part-header-requires
-part-header-requires c =
+pub part_header-requires : goal.part_header-requires
+part_header-requires c =
     let at = shown_some c.args.b.now c.args.s c.in-Some.-h c.in-Some.ensures
     in (c.requires.0, (c.requires.1, at.0))
 
@@ -29,32 +29,32 @@ returns-then-j-r c =
     in let s = c.args.s
     in let at = shown_some b s c.in-Some.-h c.in-Some.ensures
     in let f = held_facts b s c.requires.0 at.0
-    in let pr = part_is b s c.in-Some-part-header.r (part b s (sections b)) c.in-Some-part-header.ensures
+    in let pr = part_is b s c.in-Some-part_header.r (part b s (sections b)) c.in-Some-part_header.ensures
     in let w = whole b s pr.0 f pr.1
     in let size = ap (λ (x : Header). x.size) pr.2
     in let offset = ap (λ (x : Header). x.offset) pr.2
     in sym (ap (λ (o : Option Body). told_relocation o c.args.j) (shown_body b s at.0 at.1)
     ∙ (ap (λ (o : Option ℕ). slice_get (relocations_in b o) c.args.j) pr.1 ∙ relocation_past b pr.0 c.args.j (omega (arith, size))))
 
-pub overflow-add-r : goal.overflow-add-r
-overflow-add-r c =
+pub overflow_add-r : goal.overflow_add-r
+overflow_add-r c =
     let b = c.args.b.now
     in let s = c.args.s
     in let at = shown_some b s c.in-Some.-h c.in-Some.ensures
     in let f = held_facts b s c.requires.0 at.0
-    in let pr = part_is b s c.in-Some-part-header.r (part b s (sections b)) c.in-Some-part-header.ensures
+    in let pr = part_is b s c.in-Some-part_header.r (part b s (sections b)) c.in-Some-part_header.ensures
     in let w = whole b s pr.0 f pr.1
     in let size = ap (λ (x : Header). x.size) pr.2
     in let offset = ap (λ (x : Header). x.offset) pr.2
     in record { fits = omega (arith, w.ends, size, offset) }
 
-pub relocation-at-requires : goal.relocation-at-requires
-relocation-at-requires c =
+pub relocation_at-requires : goal.relocation_at-requires
+relocation_at-requires c =
     let b = c.args.b.now
     in let s = c.args.s
     in let at = shown_some b s c.in-Some.-h c.in-Some.ensures
     in let f = held_facts b s c.requires.0 at.0
-    in let pr = part_is b s c.in-Some-part-header.r (part b s (sections b)) c.in-Some-part-header.ensures
+    in let pr = part_is b s c.in-Some-part_header.r (part b s (sections b)) c.in-Some-part_header.ensures
     in let w = whole b s pr.0 f pr.1
     in let size = ap (λ (x : Header). x.size) pr.2
     in let offset = ap (λ (x : Header). x.offset) pr.2
@@ -64,14 +64,14 @@ relocation-at-requires c =
 pub returns-in-None : goal.returns-in-None
 returns-in-None c = sym (ap (λ (o : Option Body). told_relocation o c.args.j) (shown_none c.args.b.now c.args.s c.in-None.ensures))
 
-pub returns-in-None-part-header : goal.returns-in-None-part-header
-returns-in-None-part-header c =
+pub returns-in-None-part_header : goal.returns-in-None-part_header
+returns-in-None-part_header c =
     let b = c.args.b.now
     in let s = c.args.s
     in let at = shown_some b s c.in-Some.-h c.in-Some.ensures
     in let f = held_facts b s c.requires.0 at.0
     in sym (ap (λ (o : Option Body). told_relocation o c.args.j) (shown_body b s at.0 at.1)
-    ∙ ap (λ (o : Option ℕ). slice_get (relocations_in b o) c.args.j) (part_gone b (part b s (sections b)) c.in-None-part-header.ensures))
+    ∙ ap (λ (o : Option ℕ). slice_get (relocations_in b o) c.args.j) (part_gone b (part b s (sections b)) c.in-None-part_header.ensures))
 
 pub returns-else-j-r : goal.returns-else-j-r
 returns-else-j-r c =
@@ -79,11 +79,11 @@ returns-else-j-r c =
     in let s = c.args.s
     in let at = shown_some b s c.in-Some.-h c.in-Some.ensures
     in let f = held_facts b s c.requires.0 at.0
-    in let pr = part_is b s c.in-Some-part-header.r (part b s (sections b)) c.in-Some-part-header.ensures
+    in let pr = part_is b s c.in-Some-part_header.r (part b s (sections b)) c.in-Some-part_header.ensures
     in let w = whole b s pr.0 f pr.1
     in let size = ap (λ (x : Header). x.size) pr.2
     in let offset = ap (λ (x : Header). x.offset) pr.2
-    in c.relocation-at.ensures
+    in c.relocation_at.ensures
     ∙ (ap (λ (o : ℕ). Some (relocation_at b o c.args.j)) offset
     ∙ sym (ap (λ (o : Option Body). told_relocation o c.args.j) (shown_body b s at.0 at.1)
     ∙ (ap (λ (o : Option ℕ). slice_get (relocations_in b o) c.args.j) pr.1 ∙ relocation_some b pr.0 c.args.j (omega (arith, size)))))

@@ -18,8 +18,8 @@ use Rattle.object.specs.Meaning.{low, alignment_of, flags_of}
 use Rattle.object.specs.Lawful.{aligned_small}
 use Rattle.object.proofs.view.relocation_count.Goals as goal
 
-pub overflow-cast-result : goal.overflow-cast-result
-overflow-cast-result c =
+pub overflow_cast-result : goal.overflow_cast-result
+overflow_cast-result c =
     let b = c.args.b.now
     in let at = part_is b c.args.s c.in-Some.h (part b c.args.s (sections b)) c.in-Some.ensures
     in let w = whole b c.args.s at.0 (held_facts b c.args.s c.requires.0 c.requires.1.1) at.1

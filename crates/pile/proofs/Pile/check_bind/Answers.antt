@@ -11,7 +11,7 @@ returns-in-Some g c =
     let v = g.met.G.SectionGraph.valid c.args.self.now.below c.requires.0 in
     let t = c.args.self.now.table in
     let p = c.has.ensures in
-    let why = bind_refusal x t c.args.name c.args.section ∙ sym (c.bind-refusal.ensures ∙ (λ i. bind_refused t (p i) c.args.name c.args.section)) in
+    let why = bind_refusal x t c.args.name c.args.section ∙ sym (c.bind_refusal.ensures ∙ (λ i. bind_refused t (p i) c.args.name c.args.section)) in
     refused_done x v t c.requires.1 (Bind c.args.name c.args.section) c.in-Some.fault (why ∙ c.in-Some.is)
 
 pub returns-in-None : goal.returns-in-None
@@ -19,5 +19,5 @@ returns-in-None g c =
     let x = g.G.SectionGraph.graph c.args.self.now.below in
     let t = c.args.self.now.table in
     let p = c.has.ensures in
-    let why = bind_refusal x t c.args.name c.args.section ∙ sym (c.bind-refusal.ensures ∙ (λ i. bind_refused t (p i) c.args.name c.args.section)) in
+    let why = bind_refusal x t c.args.name c.args.section ∙ sym (c.bind_refusal.ensures ∙ (λ i. bind_refused t (p i) c.args.name c.args.section)) in
     why ∙ c.in-None.is

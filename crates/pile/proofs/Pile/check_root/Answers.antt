@@ -12,7 +12,7 @@ returns-in-Some g c =
     let t = c.args.self.now.table in
     let p = c.has.ensures in
     let n = c.root_count.ensures in
-    let why = root_refusal x t c.args.section ∙ sym (c.root-refusal.ensures ∙ (λ i. root_refused t (p i) (n i) c.args.section)) in
+    let why = root_refusal x t c.args.section ∙ sym (c.root_refusal.ensures ∙ (λ i. root_refused t (p i) (n i) c.args.section)) in
     refused_done x v t c.requires.1 (Root c.args.section) c.in-Some.fault (why ∙ c.in-Some.is)
 
 pub returns-in-None : goal.returns-in-None
@@ -21,5 +21,5 @@ returns-in-None g c =
     let t = c.args.self.now.table in
     let p = c.has.ensures in
     let n = c.root_count.ensures in
-    let why = root_refusal x t c.args.section ∙ sym (c.root-refusal.ensures ∙ (λ i. root_refused t (p i) (n i) c.args.section)) in
+    let why = root_refusal x t c.args.section ∙ sym (c.root_refusal.ensures ∙ (λ i. root_refused t (p i) (n i) c.args.section)) in
     why ∙ c.in-None.is

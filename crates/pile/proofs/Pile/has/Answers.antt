@@ -6,6 +6,6 @@ use Rattle.pile.proofs.Pile.has.Goals as goal
 
 pub returns : goal.returns
 returns g c =
-    c.is-some.ensures ∙
-    (ap (λ (o : Option Record). is_some o) c.record-of.ensures ∙
+    c.is_some.ensures ∙
+    (ap (λ (o : Option Record). is_some o) c.record_of.ensures ∙
     some_record (section_of (g.G.SectionGraph.graph c.args.self.now.below) c.args.s))

@@ -14,15 +14,15 @@ loop-s-preserved g c =
     let t = c.args.self.now.table in
     let s = c.loop-s.s in
     let lt : s < length c.loop-s.there = omega (arith, c.loop-s.invariant.0) in
-    let here : c.is-some.result ≡ present (told x t).graph s =
-    c.is-some.ensures ∙
-    (ap (λ (o : Option Record). is_some o) c.record-of.ensures ∙ some_record (section_of (told x t).graph s)) in (
-      length-set c.loop-s.there s c.is-some.result ∙ c.loop-s.invariant.0,
+    let here : c.is_some.result ≡ present (told x t).graph s =
+    c.is_some.ensures ∙
+    (ap (λ (o : Option Record). is_some o) c.record_of.ensures ∙ some_record (section_of (told x t).graph s)) in (
+      length-set c.loop-s.there s c.is_some.result ∙ c.loop-s.invariant.0,
       below_more _ _
           (λ k h.
           let ne : k ≢ s = omega arith in
-          get_or-set_other c.loop-s.there s k c.is-some.result false ne ∙ c.loop-s.invariant.1 k h)
-          (get_or-set_same c.loop-s.there s c.is-some.result false lt ∙ here),
+          get_or-set_other c.loop-s.there s k c.is_some.result false ne ∙ c.loop-s.invariant.1 k h)
+          (get_or-set_same c.loop-s.there s c.is_some.result false lt ∙ here),
     )
 
 pub returns : goal.returns

@@ -3,8 +3,8 @@ use Rattle.ledger.proofs.Asking.{tells_root_count}
 use Rattle.pile.specs.Piling.{roots_small}
 use Rattle.pile.proofs.Pile.seen_root_count.Goals as goal
 
-pub overflow-add-result : goal.overflow-add-result
-overflow-add-result g c =
+pub overflow_add-result : goal.overflow_add-result
+overflow_add-result g c =
     let h =
     roots_small
     (g.G.SectionGraph.graph c.args.self.now.below)

@@ -5,14 +5,14 @@ use Rattle.slots.proofs.Turning.{turned_full, kept_small, gone_small, drop_absen
 use Rattle.slots.proofs.Slots.drop_unreached.Goals as goal
 use Rattle.slots.proofs.Slots.drop_unreached.Goals.{then-there-s+then-reached-s, then-there-s+else-reached-s, else-there-s}
 
-pub overflow-add-left : goal.overflow-add-left
-overflow-add-left c =
+pub overflow_add-left : goal.overflow_add-left
+overflow_add-left c =
     let small : c.loop-s.s < 1024 = omega arith in
     let h = kept_small (dropped_slot c.args.there.now c.args.reached.now) (stays c.args.there.now c.args.reached.now) (drops c.args.there.now c.args.reached.now) c.loop-s.s c.args.self.now c.requires.full small c.loop-s.self c.loop-s.left c.loop-s.dropped c.loop-s.invariant in
     omega arith
 
-pub overflow-add-dropped : goal.overflow-add-dropped
-overflow-add-dropped c =
+pub overflow_add-dropped : goal.overflow_add-dropped
+overflow_add-dropped c =
     let small : c.loop-s.s < 1024 = omega arith in
     let h = gone_small (dropped_slot c.args.there.now c.args.reached.now) (stays c.args.there.now c.args.reached.now) (drops c.args.there.now c.args.reached.now) c.loop-s.s c.args.self.now c.requires.full small c.loop-s.self c.loop-s.left c.loop-s.dropped c.loop-s.invariant in
     omega arith

@@ -5,14 +5,14 @@ use Rattle.slots.proofs.Turning.{turned_full, kept_small, gone_small, join_absen
 use Rattle.slots.proofs.Slots.join_classes.Goals as goal
 use Rattle.slots.proofs.Slots.join_classes.Goals.{then-there-s+then-lead-s, then-there-s+else-lead-s, else-there-s}
 
-pub overflow-add-left : goal.overflow-add-left
-overflow-add-left c =
+pub overflow_add-left : goal.overflow_add-left
+overflow_add-left c =
     let small : c.loop-s.s < 1024 = omega arith in
     let h = kept_small (joined_slot c.args.there.now c.args.class.now) (leads c.args.there.now c.args.class.now) (joins c.args.there.now c.args.class.now) c.loop-s.s c.args.self.now c.requires.full small c.loop-s.self c.loop-s.left c.loop-s.joined c.loop-s.invariant in
     omega arith
 
-pub overflow-add-joined : goal.overflow-add-joined
-overflow-add-joined c =
+pub overflow_add-joined : goal.overflow_add-joined
+overflow_add-joined c =
     let small : c.loop-s.s < 1024 = omega arith in
     let h = gone_small (joined_slot c.args.there.now c.args.class.now) (leads c.args.there.now c.args.class.now) (joins c.args.there.now c.args.class.now) c.loop-s.s c.args.self.now c.requires.full small c.loop-s.self c.loop-s.left c.loop-s.joined c.loop-s.invariant in
     omega arith

@@ -9,6 +9,6 @@ use Rattle.table.proofs.places.byte_at.Goals as goal
 pub returns : goal.returns
 returns c =
     let few : length (take 4 (drop c.args.at c.args.rows.now)) ≤ 18 = simp length-take (omega arith) in
-    c.as-byte.ensures
+    c.as_byte.ensures
     ∙ ap byte_told
-    (c.read-column.ensures ∙ ap column_of (c.front.ensures ∙ ap (take 4) c.tail.ensures) ∙ cond-true _ _ _ (le-leb _ _ few))
+    (c.read_column.ensures ∙ ap column_of (c.front.ensures ∙ ap (take 4) c.tail.ensures) ∙ cond-true _ _ _ (le-leb _ _ few))

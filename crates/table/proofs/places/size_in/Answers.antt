@@ -9,6 +9,6 @@ use Rattle.table.proofs.places.size_in.Goals as goal
 pub returns : goal.returns
 returns c =
     let few : length (take 12 (drop 37 c.args.rows.now)) ≤ 18 = simp length-take (omega arith) in
-    c.as-size.ensures
+    c.as_size.ensures
     ∙ ap size_told
-    (c.read-column.ensures ∙ ap column_of (c.front.ensures ∙ ap (take 12) c.tail.ensures) ∙ cond-true _ _ _ (le-leb _ _ few))
+    (c.read_column.ensures ∙ ap column_of (c.front.ensures ∙ ap (take 12) c.tail.ensures) ∙ cond-true _ _ _ (le-leb _ _ few))

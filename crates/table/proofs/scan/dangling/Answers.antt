@@ -14,13 +14,13 @@ returns-in-default c =
     (ap read_row (sym (take_rest c.args.text.now c.loop-at.at)) ∙ sym c.in-default.ensures.row))
     ∙ c.loop-at.invariant.0
 
-pub returns-then-names-unnoted : goal.returns-then-names-unnoted
-returns-then-names-unnoted c =
+pub returns-then-names_unnoted : goal.returns-then-names_unnoted
+returns-then-names_unnoted c =
     let read : read_row (drop c.loop-at.at c.args.text.now) ≡ Ok (told c.in-Ok.row) =
     ap read_row (sym (take_rest c.args.text.now c.loop-at.at)) ∙ sym c.in-Ok.ensures.row in
     let w : ℕ = length (render (told c.in-Ok.row)) in
     ap (λ (b : Bool). cond b (Some c.loop-at.at) (loose_from c.args.starts.now (c.loop-at.at + w) (lines (drop (c.loop-at.at + w) c.args.text.now))))
-    c.if-names-unnoted.ensures
+    c.if-names_unnoted.ensures
     ∙ sym (loose_row c.args.starts.now c.args.text.now c.loop-at.at (told c.in-Ok.row) read)
     ∙ c.loop-at.invariant.0
 
@@ -32,7 +32,7 @@ loop-at-preserved c =
     let wide : c.width-at.result ≡ w = c.width-at.ensures ∙ ap length c.in-Ok.ensures.part in
     let rest : loose_from c.args.starts.now (c.loop-at.at + w) (lines (drop (c.loop-at.at + w) c.args.text.now)) ≡ loose_from c.args.starts.now 0 (lines c.args.text.now) =
     ap (λ (b : Bool). cond b (Some c.loop-at.at) (loose_from c.args.starts.now (c.loop-at.at + w) (lines (drop (c.loop-at.at + w) c.args.text.now))))
-    c.if-names-unnoted.ensures
+    c.if-names_unnoted.ensures
     ∙ sym (loose_row c.args.starts.now c.args.text.now c.loop-at.at (told c.in-Ok.row) read)
     ∙ c.loop-at.invariant.0 in
     rw wide (rest, (row_fits c.args.text.now c.loop-at.at (told c.in-Ok.row) read).1)

@@ -22,8 +22,8 @@ pub returns-in-err-notes : goal.returns-in-err-notes
 returns-in-err-notes c =
     let b = vec_items c.args.file
     in let f = c.in-err-notes.field-0.0
-    in let w = subst (λ (x : List ℕ). Ends x (checks x) (Err f)) c.as-slice.ensures.value c.in-err-notes.ensures
-    in let p = err_from_is_err_and c.from-residual.result c.from-residual.ensures.1
+    in let w = subst (λ (x : List ℕ). Ends x (checks x) (Err f)) c.as_slice.ensures.value c.in-err-notes.ensures
+    in let p = err_from_is_err_and c.from_residual.result c.from_residual.ensures.1
     in record {
       verdict = p.1 ∙ (ap Err p.2 ∙ answer_some (first_fault (checks b)) f tt w);
       first = verdict_law (checks b);
@@ -34,7 +34,7 @@ pub invariant-of-self : goal.invariant-of-self
 invariant-of-self c =
     let b = vec_items c.args.file
     in let x = c.in-ok-notes.notes
-    in let w = subst (λ (y : List ℕ). Ends y (checks y) (Ok x)) c.as-slice.ensures.value c.in-ok-notes.ensures
+    in let w = subst (λ (y : List ℕ). Ends y (checks y) (Ok x)) c.as_slice.ensures.value c.in-ok-notes.ensures
     in let k = kept_from b x w.1
     in (
       read_held b w.0,
@@ -45,7 +45,7 @@ pub returns : goal.returns
 returns c =
     let b = vec_items c.args.file
     in let x = c.in-ok-notes.notes
-    in let w = subst (λ (y : List ℕ). Ends y (checks y) (Ok x)) c.as-slice.ensures.value c.in-ok-notes.ensures
+    in let w = subst (λ (y : List ℕ). Ends y (checks y) (Ok x)) c.as_slice.ensures.value c.in-ok-notes.ensures
     in record {
       verdict = answer_none (first_fault (checks b)) tt w.0;
       first = verdict_law (checks b);

@@ -12,8 +12,8 @@ bounds-self-at g c =
     c.requires.small
     c.if-not-self-s.true
 
-pub overflow-add-self : goal.overflow-add-self
-overflow-add-self g c =
+pub overflow_add-self : goal.overflow_add-self
+overflow_add-self g c =
     let h =
     room
     (g.G.SectionGraph.graph c.args.graph.now)

@@ -40,7 +40,7 @@ loop-j-preserved g c =
 pub returns : goal.returns
 returns g c =
     let x = g.G.SectionGraph.graph c.args.graph.now in
-    let count = c.count-of-j-end.ensures ∙ ap told_count c.record-of.ensures in
+    let count = c.count_of-j-end.ensures ∙ ap told_count c.record_of.ensures in
     record {
       sound = c.loop-j.invariant.0;
       grown = c.loop-j.invariant.1;

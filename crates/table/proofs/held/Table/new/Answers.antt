@@ -7,7 +7,7 @@ use Rattle.table.proofs.held.Table.new.Goals as goal
 -- no text is held, and nothing is noted
 pub invariant-of-result : goal.invariant-of-result
 invariant-of-result c = (
-  subst (λ (xs : List ℕ). held (vec_items c.new.result) xs ≡ true) (sym c.no-starts.ensures)
+  subst (λ (xs : List ℕ). held (vec_items c.new.result) xs ≡ true) (sym c.no_starts.ensures)
       (subst (λ (t : List ℕ). held t no_notes ≡ true) (sym c.new.ensures.items) held_none),
   tt,
 )

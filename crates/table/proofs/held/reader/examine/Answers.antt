@@ -5,12 +5,12 @@ use Rattle.table.proofs.held.reader.examine.Goals as goal
 
 pub returns-in-err-starts : goal.returns-in-err-starts
 returns-in-err-starts c =
-    let p = err_from_is_err_and c.from-residual.result c.from-residual.ensures.1 in
+    let p = err_from_is_err_and c.from_residual.result c.from_residual.ensures.1 in
     rw (p.1, p.2) (sym (scanned_err c.args.text.now _ (sym c.scan.ensures ∙ c.in-err-starts.was)))
 
 pub returns-in-Some : goal.returns-in-Some
 returns-in-Some c =
-    ap Err c.dangling-row.ensures
+    ap Err c.dangling_row.ensures
     ∙ sym (examined_loose c.args.text.now c.in-ok-starts.starts _ (sym c.scan.ensures ∙ c.in-ok-starts.was) (sym c.in-Some.is ∙ c.dangling.ensures))
 
 pub returns-in-None : goal.returns-in-None

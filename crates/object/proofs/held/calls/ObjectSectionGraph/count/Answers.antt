@@ -14,4 +14,4 @@ use Rattle.object.proofs.held.calls.ObjectSectionGraph.count.Goals as goal
 pub returns : goal.returns
 returns c =
     let b = vec_items c.args.self.now.file
-    in c.count.ensures ∙ (ap sections c.as-slice.ensures.value ∙ sym (length-map-range_with_len (told_section b) 0 (sections b)))
+    in c.count.ensures ∙ (ap sections c.as_slice.ensures.value ∙ sym (length-map-range_with_len (told_section b) 0 (sections b)))

@@ -11,10 +11,10 @@ use Rattle.object.specs.Held.{held, Kept}
 use Rattle.object.proofs.Holding.{kept_of}
 use Rattle.object.proofs.held.calls.ObjectSectionGraph.record_of.Goals as goal
 
-pub record-of-requires : goal.record-of-requires
-record-of-requires c =
+pub record_of-requires : goal.record_of-requires
+record_of-requires c =
     let x = c.args.self.now
     in (
-      subst (λ (b : List ℕ). held b ≡ true) (sym c.as-slice.ensures.value) x.met,
-      subst (λ (b : List ℕ). Kept b x.notes) (sym c.as-slice.ensures.value) (kept_of x),
+      subst (λ (b : List ℕ). held b ≡ true) (sym c.as_slice.ensures.value) x.met,
+      subst (λ (b : List ℕ). Kept b x.notes) (sym c.as_slice.ensures.value) (kept_of x),
     )

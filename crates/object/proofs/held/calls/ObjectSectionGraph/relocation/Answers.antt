@@ -15,6 +15,6 @@ pub relocation-requires : goal.relocation-requires
 relocation-requires c =
     let x = c.args.self.now
     in (
-      subst (λ (b : List ℕ). held b ≡ true) (sym c.as-slice.ensures.value) x.met,
-      subst (λ (b : List ℕ). Kept b x.notes) (sym c.as-slice.ensures.value) (kept_of x),
+      subst (λ (b : List ℕ). held b ≡ true) (sym c.as_slice.ensures.value) x.met,
+      subst (λ (b : List ℕ). Kept b x.notes) (sym c.as_slice.ensures.value) (kept_of x),
     )

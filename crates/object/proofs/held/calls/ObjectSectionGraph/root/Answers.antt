@@ -14,4 +14,4 @@ use Rattle.object.proofs.held.calls.ObjectSectionGraph.root.Goals as goal
 pub root-requires : goal.root-requires
 root-requires c =
     let x = c.args.self.now
-    in subst (λ (b : List ℕ). Kept b x.notes) (sym c.as-slice.ensures.value) (kept_of x)
+    in subst (λ (b : List ℕ). Kept b x.notes) (sym c.as_slice.ensures.value) (kept_of x)

@@ -11,7 +11,7 @@ use Rattle.object.specs.Held.{held, Kept}
 use Rattle.object.proofs.Holding.{kept_of}
 use Rattle.object.proofs.held.calls.ObjectSectionGraph.root_count.Goals as goal
 
-pub root-count-requires : goal.root-count-requires
-root-count-requires c =
+pub root_count-requires : goal.root_count-requires
+root_count-requires c =
     let x = c.args.self.now
-    in subst (λ (b : List ℕ). Kept b x.notes) (sym c.as-slice.ensures.value) (kept_of x)
+    in subst (λ (b : List ℕ). Kept b x.notes) (sym c.as_slice.ensures.value) (kept_of x)

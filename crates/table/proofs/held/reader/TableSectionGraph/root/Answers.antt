@@ -6,7 +6,7 @@ use Rattle.table.proofs.held.reader.TableSectionGraph.root.Goals as goal
 
 pub returns : goal.returns
 returns c =
-    c.root-in.ensures
-    ∙ ap (λ (t : List ℕ). root_in t c.root_count.result c.args.j) c.as-slice.ensures.value
-    ∙ ap (λ (k : ℕ). root_in (vec_items c.args.self.now.text) k c.args.j) (c.root_count.ensures ∙ ap (λ (t : List ℕ). roots_told (read_row t)) c.as-slice-2.ensures.value)
+    c.root_in.ensures
+    ∙ ap (λ (t : List ℕ). root_in t c.root_count.result c.args.j) c.as_slice.ensures.value
+    ∙ ap (λ (k : ℕ). root_in (vec_items c.args.self.now.text) k c.args.j) (c.root_count.ensures ∙ ap (λ (t : List ℕ). roots_told (read_row t)) c.as_slice-2.ensures.value)
     ∙ root_held c.args.j (vec_items c.args.self.now.text) c.args.self.now.starts c.args.self.now.fit
