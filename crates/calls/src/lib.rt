@@ -1,5 +1,8 @@
 // The calls that a pile takes, and what it tells of its sections and answers to a call. Plain data: what a call does stands in the
 // crate `runs`.
+
+#![tactic(auto)]
+
 use fault::Fault;
 
 // What became of a section in a pile.

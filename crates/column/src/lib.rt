@@ -1,5 +1,8 @@
 // Numbers in columns: right-justified, with blanks before them and a minus directly before the digits. The definitions,
 // and the two theorems that make a column exact, stand in specs/Columns.antt.
+
+#![tactic(auto)]
+
 ghost use Rattle.std.specs.Prelude.{◌≡◌, suc, ◌+◌, ◌^◌, ◌<◌, ◌≤◌, ◌∷◌, ◌++◌, length, take, drop, replicate, pos, if◌then◌else◌, Some, decimal, MatchOption, nat_le};
 ghost use Rattle.std.specs.Fmt.{signed_decimal};
 ghost use Rattle.column.specs.Columns.{justified, column, gathered, natural, negative, number, read_column, column_of, ReadBack, OnlyWritten};

@@ -1,5 +1,8 @@
 // What sections tell, compared two at a time over any section graph: first all but the sections that their relocations point at, then
 // the classes of these.
+
+#![tactic(auto)]
+
 ghost use Rattle.std.specs.Prelude.{◌≡◌};
 ghost use Rattle.model.specs.Graph.{section_of};
 ghost use Rattle.unfolding.specs.Depth.{same_list};

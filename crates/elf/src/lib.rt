@@ -1,4 +1,7 @@
 // The parts of an ELF64 object: section headers, symbols and relocation entries, read at a place of the file.
+
+#![tactic(auto)]
+
 ghost use Rattle.std.specs.Prelude.{◌≡◌};
 ghost use Rattle.field.specs.Fields.{within};
 ghost use Rattle.elf.specs.Layout.{header_at, symbol_at, entry_at, place, section as section_in, has as has_flag, apart as apart_kind, present as present_header, outside as outside_index, aligned as aligned_by, root as root_header, plain as plain_header};

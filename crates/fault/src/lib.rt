@@ -1,4 +1,7 @@
 // What every refusal of the library tells: which rule, at which place, from which layer.
+
+#![tactic(auto)]
+
 ghost use Rattle.std.specs.Prelude.{◌≡◌};
 ghost use Rattle.fault.specs.Numbers.{kind_number, layer_number};
 

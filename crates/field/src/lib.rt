@@ -1,4 +1,7 @@
 // Little-endian fields and ULEB128 numbers, read at a place of some bytes.
+
+#![tactic(auto)]
+
 ghost use Rattle.std.specs.Prelude.{◌≡◌, ◌+◌, ◌*◌, ◌^◌, ◌<◌, ◌≤◌, min, length};
 ghost use Rattle.field.specs.Fields.{half as half_at, word as word_at, long as long_at, signed as signed_at, short as short_of, within};
 ghost use Rattle.field.specs.Uleb.{gathered, none_yet, number_at, misshapen as misshapen_at};

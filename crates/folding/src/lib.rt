@@ -1,5 +1,8 @@
 // The folded and the swept graph: theorems on the definitions of crate `unfolding`. A function here has a theorem for its contract, and
 // nothing to do.
+
+#![tactic(auto)]
+
 ghost use Rattle.folding.specs.Theorems.{FoldFolds, FoldValid, ReachDecided, SweepSweeps, SweepValid, FoldKeepsReached, SweepKeepsApart, Settled, BothFinish};
 
 // The fold leaves the lowest of each group, sections and roots unfold as they did, and no two different sections are alike.

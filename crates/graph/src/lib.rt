@@ -1,4 +1,7 @@
 // The interface of everything that holds sections: object files, section tables and piles.
+
+#![tactic(auto)]
+
 ghost use Rattle.std.specs.Prelude.{◌≡◌, Decides};
 ghost use Rattle.model.specs.Graph.{Graph, count_of, record_of, byte_of, relocation_of, root_count_of, root_of};
 ghost use Rattle.model.specs.Laws.{Valid};

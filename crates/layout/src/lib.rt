@@ -1,4 +1,7 @@
 // The order of a table's rows: what may come next, row by row.
+
+#![tactic(auto)]
+
 ghost use Rattle.std.specs.Prelude.{◌≡◌, min, if◌then◌else◌, Some, None, nat_eq};
 ghost use Rattle.row.specs.Entry.{section, relocation, root, end};
 ghost use Rattle.row.specs.Told.{told};

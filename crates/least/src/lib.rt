@@ -1,5 +1,8 @@
 // Why a swept and folded graph is the smallest: theorems on the definitions of crate `unfolding`. A function here has a theorem for its
 // contract, and nothing to do.
+
+#![tactic(auto)]
+
 ghost use Rattle.least.specs.Theorems.{Least, FinishLeast, OrdersAgree};
 
 // Where everything is reached and no two sections are alike, no graph with alike roots has fewer sections.

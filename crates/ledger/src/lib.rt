@@ -1,5 +1,8 @@
 // The plain inner table of a pile: what became of each section, and what was pinned, bound and rooted. It knows nothing of the graph
 // below: it answers from that graph's answers.
+
+#![tactic(auto)]
+
 ghost use Rattle.std.specs.Prelude.{◌≡◌, ◌<◌, ◌≤◌};
 ghost use Rattle.std.specs.Option.{option_map};
 ghost use Rattle.steps.specs.Below.{least_below};

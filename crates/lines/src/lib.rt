@@ -1,1 +1,3 @@
 // A text cut into its rows.
+
+#![tactic(auto)]

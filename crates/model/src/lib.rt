@@ -1,6 +1,8 @@
 // The records that a section graph answers with. What a graph is, and the laws that it keeps, stand in specs/Graph.antt
 // and specs/Laws.antt.
 
+#![tactic(auto)]
+
 // Whether folding may join a section with others: a pinned one stays itself.
 #[derive(Clone, Copy, PartialEq, Eq, Debug)]
 pub enum Setting {

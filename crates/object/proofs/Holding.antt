@@ -5,8 +5,8 @@ use Rattle.std.proofs.lemmas.Bool.{or_left, or_right}
 use Rattle.std.proofs.lemmas.List.{length-replicate, get_or-replicate}
 use Rattle.std.proofs.lemmas.List.FromFn.{fill_by_all}
 use Rattle.field.specs.Fields.{half}
-use Rattle.check.specs.Checks.{first_fault}
-use Rattle.check.proofs.Checks.{accepts}
+use Rattle.checklist.specs.Checks.{first_fault}
+use Rattle.checklist.proofs.Checks.{accepts}
 use Rattle.rules.specs.declared.Notes.{Notes}
 use Rattle.rules.specs.declared.Symbols.{Symbols}
 use Rattle.rules.specs.Notes.{Noted, part_note, parts}

@@ -5,8 +5,8 @@ use Rattle.std.specs.List.{range_with_len}
 use Rattle.std.proofs.lemmas.Bool.{or_cases, eqb-true, eq-eqb, ne_eqb, and_parts, leb-true, ltb-true, cases_Bool, not-true, cases_lt, eqb-false, not_from_false}
 use Rattle.std.proofs.lemmas.List.{nil_from_length, length-replicate, length-map, length-take, length-drop}
 use Rattle.field.specs.Fields.{half, long}
-use Rattle.check.specs.Checks.{Check, first_fault, all_hold, each, where_holds}
-use Rattle.check.proofs.Checks.{hold_left, hold_right, hold_each, passes, accepts}
+use Rattle.checklist.specs.Checks.{Check, first_fault, all_hold, each, where_holds}
+use Rattle.checklist.proofs.Checks.{hold_left, hold_right, hold_each, passes, accepts}
 use Rattle.elf.specs.declared.Header.{Header}
 use Rattle.elf.specs.declared.Symbol.{Symbol}
 use Rattle.elf.specs.declared.Entry.{Entry}

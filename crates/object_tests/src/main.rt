@@ -1,5 +1,8 @@
 // Reads the objects of data/ and prints what was read as rows, then the verdicts on the small object with each of some
 // patches, and at last what damaged objects give. The output that is expected comes from tools/object_tests.py.
+
+#![tactic(auto)]
+
 use fault::Fault;
 use graph::SectionGraph;
 use model::{Setting, Target};

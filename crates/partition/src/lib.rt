@@ -1,4 +1,7 @@
 // Which present foldable sections agree at every depth, and after how many rounds their groups are settled, for any section graph.
+
+#![tactic(auto)]
+
 ghost use Rattle.std.specs.Prelude.{◌≡◌, ◌<◌, slice_index};
 ghost use Rattle.model.specs.Graph.{count_of, section_of};
 ghost use Rattle.steps.specs.Below.{table};

@@ -2,6 +2,9 @@
 //
 // What a call does and answers is defined in the crate `runs`, where all that is promised is proved. A pile means the state that `told`
 // reads off the graph below and the inner table, and every call makes of it what the definition says.
+
+#![tactic(auto)]
+
 ghost use Rattle.std.specs.Prelude.{◌≡◌, ◌≤◌, List, [], ◌∷◌, ◌++◌, is_some, None};
 ghost use Rattle.model.specs.Graph.{count_of, record_of, byte_of, relocation_of, root_count_of, root_of};
 ghost use Rattle.steps.specs.Below.{table as listed};

@@ -1,4 +1,7 @@
 // Which sections a chain of relocations from a root reaches, for any section graph.
+
+#![tactic(auto)]
+
 ghost use Rattle.std.specs.Prelude.{◌≡◌, ◌<◌};
 ghost use Rattle.model.specs.Graph.{root_of};
 ghost use Rattle.steps.specs.Below.{table};

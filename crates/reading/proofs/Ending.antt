@@ -6,8 +6,8 @@ use Rattle.std.proofs.lemmas.List.FromFn.{fill_by_all}
 use Rattle.std.proofs.lemmas.Bool.{and_parts, leb-true}
 use Rattle.fault.specs.declared.Fault.{Fault}
 use Rattle.field.specs.Fields.{half, long}
-use Rattle.check.specs.Checks.{Check, first_fault, all_hold, each, answer}
-use Rattle.check.proofs.Checks.{append_none, append_some, accepts}
+use Rattle.checklist.specs.Checks.{Check, first_fault, all_hold, each, answer}
+use Rattle.checklist.proofs.Checks.{append_none, append_some, accepts}
 use Rattle.elf.specs.Layout.{sections, place, section}
 use Rattle.rules.specs.declared.Notes.{Notes}
 use Rattle.rules.specs.declared.Symbols.{Symbols}

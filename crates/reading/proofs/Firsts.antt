@@ -2,8 +2,8 @@
 use Rattle.std.proofs.Common.{◌≡◌, ℕ, zero, suc, ◌+◌, ◌*◌, ◌<◌, ◌≤◌, Bool, true, false, cond, not, ◌&&◌, ◌||◌, eqb, leb, ◌⊎◌, List, [], ◌∷◌, length, Some, None, Ok, Option, sym, refl, ap, ◌∙◌, inl, inr, add-one, arith}
 use Rattle.std.proofs.lemmas.Bool.{eqb-true, ne_eqb, leb-true, and_parts, or_from}
 use Rattle.field.specs.Fields.{within}
-use Rattle.check.specs.Checks.{first_fault, each, all_hold, where_holds}
-use Rattle.check.proofs.Checks.{accepts, hold_each}
+use Rattle.checklist.specs.Checks.{first_fault, each, all_hold, where_holds}
+use Rattle.checklist.proofs.Checks.{accepts, hold_each}
 use Rattle.elf.specs.declared.Header.{Header}
 use Rattle.elf.specs.Layout.{header_at, place, section, sections}
 use Rattle.rules.specs.declared.Pass.TheVariants.{Extents}

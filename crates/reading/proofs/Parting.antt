@@ -2,8 +2,8 @@
 use Rattle.std.proofs.Common.{◌≡◌, ℕ, zero, suc, ◌+◌, ◌*◌, ◌/◌, ◌%◌, ◌<◌, ◌≤◌, Bool, true, false, cond, not, ◌&&◌, ◌||◌, eqb, ltb, leb, ◌≢◌, ◌⊎◌, List, [], ◌∷◌, ◌++◌, length, get_or, set, is_some, Some, None, Option, sym, refl, ap, ◌∙◌, inl, inr, add-one, arith}
 use Rattle.std.proofs.lemmas.Bool.{eqb-true, ne_eqb, eq-eqb, leb-true, ltb-true, and_parts, and_from, and_cases, and_left, and_right, cases_eq, cases_Bool, not-true, or_cases}
 use Rattle.std.proofs.lemmas.List.{get_or-set_same, get_or-set_other}
-use Rattle.check.specs.Checks.{Check, first_fault, all_hold, each, where_holds}
-use Rattle.check.proofs.Checks.{accepts}
+use Rattle.checklist.specs.Checks.{Check, first_fault, all_hold, each, where_holds}
+use Rattle.checklist.proofs.Checks.{accepts}
 use Rattle.elf.specs.declared.Header.{Header}
 use Rattle.elf.specs.Layout.{place, section, sections, present}
 use Rattle.rules.specs.declared.Part.{Part}

@@ -1,7 +1,7 @@
 -- A section with relocations.
 use Rattle.std.proofs.Common.{◌≡◌, ℕ, zero, suc, ◌+◌, ◌*◌, ◌/◌, ◌<◌, ◌≤◌, Bool, true, false, cond, not, ◌&&◌, ◌||◌, eqb, ltb, leb, ◌⊎◌, List, length, get_or, is_some, Some, None, Ok, Option, sym, refl, ap, ◌∙◌, inl, inr, add-one, arith}
 use Rattle.std.proofs.lemmas.Bool.{eqb-true, ne_eqb, eq-eqb, leb-true, lt-ltb, and_parts, or_from}
-use Rattle.check.specs.Checks.{first_fault}
+use Rattle.checklist.specs.Checks.{first_fault}
 use Rattle.elf.specs.declared.Header.{Header}
 use Rattle.elf.specs.Layout.{header_at, place, section, sections, present}
 use Rattle.rules.specs.Known.{Headed, Parted}

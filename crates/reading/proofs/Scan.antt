@@ -10,8 +10,8 @@ use Rattle.std.specs.List.{range_with_len}
 use Rattle.std.proofs.lemmas.Bool.{cases_eq, cases_Bool, eqb-true, eq-eqb, ne_eqb, lt-ltb, le-ltb, cases_lt}
 use Rattle.std.proofs.lemmas.List.{drop_more, drop_all, length-replicate, get_or-replicate, length-set, get_or-set_same, get_or-set_other}
 use Rattle.std.proofs.lemmas.List.FromFn.{fill_by_all}
-use Rattle.check.specs.Checks.{first_fault}
-use Rattle.check.proofs.Checks.{append_none, append_some}
+use Rattle.checklist.specs.Checks.{first_fault}
+use Rattle.checklist.proofs.Checks.{append_none, append_some}
 use Rattle.elf.specs.declared.Symbol.{Symbol}
 use Rattle.elf.specs.Layout.{outside}
 use Rattle.rules.specs.Notes.{listed_in}

@@ -1,7 +1,7 @@
 -- The steps of a loop over sections.
 use Rattle.std.proofs.Common.{◌≡◌, ℕ, ◌+◌, ◌*◌, List, length, Ok, Option, sym, refl, ap, ◌∙◌}
 use Rattle.fault.specs.declared.Fault.{Fault}
-use Rattle.check.specs.Checks.{first_fault}
+use Rattle.checklist.specs.Checks.{first_fault}
 use Rattle.field.specs.Fields.{within, long}
 use Rattle.field.proofs.Read.{read_is}
 use Rattle.elf.specs.declared.Header.{Header}

@@ -1,8 +1,8 @@
 -- What holds between the sections, and within the entries of one, while relocations are read.
 use Rattle.std.proofs.Common.{◌≡◌, ℕ, ◌+◌, ◌*◌, ◌<◌, ◌≤◌, List, ◌++◌, map, length, set, replicate, Some, None, Ok, Err, Option, sym, refl, ap, ◌∙◌, arith}
 use Rattle.std.proofs.lemmas.List.{length-replicate, get_or-replicate, length-set}
-use Rattle.check.specs.Checks.{answer}
-use Rattle.check.proofs.Checks.{ok_none, err_some, accepts, append_both, append_none, append_some, each_more, each_found}
+use Rattle.checklist.specs.Checks.{answer}
+use Rattle.checklist.proofs.Checks.{ok_none, err_some, accepts, append_both, append_none, append_some, each_more, each_found}
 use Rattle.elf.specs.Layout.{entry_at, sections}
 use Rattle.rules.specs.Rules.{entry_checks, entry_rules}
 use Rattle.reading.proofs.Parting.{parted_same, parted_more}
@@ -10,7 +10,7 @@ use Rattle.std.specs.List.{range_with_len}
 use Rattle.std.proofs.lemmas.List.FromFn.{fill_by_all}
 use Rattle.rules.specs.Notes.{part_note}
 use Rattle.fault.specs.declared.Fault.{Fault}
-use Rattle.check.specs.Checks.{first_fault, each}
+use Rattle.checklist.specs.Checks.{first_fault, each}
 use Rattle.elf.specs.Layout.{place, section}
 use Rattle.rules.specs.declared.Part.{Part}
 use Rattle.rules.specs.Known.{Parted}

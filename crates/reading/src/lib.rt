@@ -1,8 +1,11 @@
 // The reading of an ELF64 object: the rules in their order, left at the first check that does not hold, with notes of what
 // was found on the way.
+
+#![tactic(auto)]
+
 ghost use Rattle.std.specs.Prelude.{◌≡◌, ◌+◌, ◌*◌, ◌<◌, ◌≤◌, map, length, Some, None, MatchResult};
 ghost use Rattle.std.specs.List.{range_with_len};
-ghost use Rattle.check.specs.Checks.{first_fault, each, answer};
+ghost use Rattle.checklist.specs.Checks.{first_fault, each, answer};
 ghost use Rattle.elf.specs.Layout.{place, section as section_in};
 ghost use Rattle.rules.specs.Known.{Headed, Tabled, Parted, Ends, Rooted};
 ghost use Rattle.rules.specs.Listing.{item_checks, items, significance as significance_in, listing_rule, listing_of};

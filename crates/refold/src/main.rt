@@ -1,4 +1,7 @@
 // Reads a section table from standard input, sweeps and folds it, and prints its table. A refusal is printed as an F row, with status 1.
+
+#![tactic(auto)]
+
 use anyhow::anyhow;
 use refolding::refold;
 use std::io;

@@ -1,4 +1,7 @@
 // A section table swept and folded: what is printed of it.
+
+#![tactic(auto)]
+
 ghost use Rattle.std.specs.Prelude.{◌≡◌, true, false, length, IfOk};
 ghost use Rattle.row_writer.specs.Writing.{fault_row};
 ghost use Rattle.layout.specs.Layout.{text_of};

@@ -1,5 +1,8 @@
 // A small section graph, to try what works on any: sections 0 and 1 call each other, section 2 calls itself, and all else is alike. Section
 // 2 is the root.
+
+#![tactic(auto)]
+
 ghost use Rattle.std.specs.Prelude.{◌≡◌};
 ghost use Rattle.model.specs.Graph.{Graph};
 ghost use Rattle.ring.specs.Calls.{called, ring};

@@ -1,4 +1,7 @@
 // Rows of a section table.
+
+#![tactic(auto)]
+
 ghost use Rattle.std.specs.Prelude.{◌≡◌, slice_index};
 ghost use Rattle.row.specs.Reading.{setting_of, target_of, counted, row_bytes, record_at, target_at, relocation_at};
 ghost use Rattle.row.specs.Reading.{read_header, read_section, read_bytes, read_relocation, read_root, read_end, read_by, read_row};

@@ -1,5 +1,8 @@
 // The parts of a row of a table: a number in its columns with its range, and the row's end. Each is read at a place of
 // a text, or what is bad there is told.
+
+#![tactic(auto)]
+
 ghost use Rattle.std.specs.Prelude.{◌≡◌, slice_index};
 ghost use Rattle.model.specs.Laws.{highest};
 ghost use Rattle.row_part.specs.Parts.{column_at, bounded_at, natural_at, power_below, alignment_at, displacement_at, end_at, Ended};

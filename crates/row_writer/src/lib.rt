@@ -1,6 +1,9 @@
 // The rows of a table written into a buffer. Each writer takes the part of the buffer that starts where the last row
 // ended, answers how long its row is, and leaves the rest of the buffer as it was. A buffer that is too short is
 // refused, and nothing is written.
+
+#![tactic(auto)]
+
 ghost use Rattle.std.specs.Prelude.{◌≡◌, ◌+◌, ◌≤◌, max, ◌++◌, map, length, take, pos, decimal};
 ghost use Rattle.std.specs.Fmt.{signed_decimal};
 ghost use Rattle.column.specs.Columns.{column, columns};

@@ -6,7 +6,7 @@ use Rattle.rules.specs.declared.Symbols.{Symbols}
 use Rattle.rules.specs.Rules.{symbols}
 use Rattle.std.specs.List.{range_with_len}
 use Rattle.fault.specs.declared.Fault.{Fault}
-use Rattle.check.specs.Checks.{Check, first_fault}
+use Rattle.checklist.specs.Checks.{Check, first_fault}
 use Rattle.rules.specs.declared.Notes.{Notes}
 use Rattle.rules.specs.Notes.{part_note, is_root, Noted}
 

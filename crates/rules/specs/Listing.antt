@@ -4,7 +4,7 @@ use Rattle.fault.specs.declared.Fault.{Fault}
 use Rattle.fault.specs.declared.Kind.TheVariants.{Dangling}
 use Rattle.field.specs.declared.Number.{Number}
 use Rattle.field.specs.Uleb.{number_at, misshapen}
-use Rattle.check.specs.Checks.{Check}
+use Rattle.checklist.specs.Checks.{Check}
 use Rattle.elf.specs.declared.Symbol.{Symbol}
 use Rattle.elf.specs.Layout.{section, outside}
 use Rattle.rules.specs.Rules.{check, fault_at, the_only, symbols, symbol}

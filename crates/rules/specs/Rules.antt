@@ -5,7 +5,7 @@ use Rattle.fault.specs.declared.Kind.{Kind}
 use Rattle.fault.specs.declared.Kind.TheVariants.{Short, Foreign, Oversize, Dangling, Misshapen}
 use Rattle.fault.specs.declared.Layer.TheVariants.{Field, Format}
 use Rattle.field.specs.Fields.{half, word, long, short}
-use Rattle.check.specs.Checks.{Check, each, where_holds}
+use Rattle.checklist.specs.Checks.{Check, each, where_holds}
 use Rattle.elf.specs.declared.Header.{Header}
 use Rattle.elf.specs.declared.Symbol.{Symbol}
 use Rattle.elf.specs.declared.Entry.{Entry}

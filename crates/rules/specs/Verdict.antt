@@ -1,7 +1,7 @@
 -- The verdict on an object: all rules in order, and the first check that does not hold.
 use Rattle.std.specs.Prelude.{ℕ, Bool, List, ◌++◌, Option}
 use Rattle.fault.specs.declared.Fault.{Fault}
-use Rattle.check.specs.Checks.{Check, first_fault, all_hold, each}
+use Rattle.checklist.specs.Checks.{Check, first_fault, all_hold, each}
 use Rattle.elf.specs.Layout.{sections}
 use Rattle.rules.specs.declared.Pass.TheVariants.{Extents, Contents}
 use Rattle.rules.specs.Rules.{head_rule, pass_rule, only_rule, table_rule, relocation_rule}

@@ -1,7 +1,10 @@
 // The rules that an ELF64 object has to meet, one section, symbol, entry or number at a time. The rules themselves stand in
 // specs/Rules.antt and specs/Listing.antt, and all of them in their order in specs/Verdict.antt.
+
+#![tactic(auto)]
+
 ghost use Rattle.std.specs.Prelude.{◌≡◌, ℕ, ◌+◌, ◌*◌, ◌/◌, ◌<◌, ◌≤◌, not, length, if◌then◌else◌, Ok, ◌==◌, nat_eq, nat_le, slice_index};
-ghost use Rattle.check.specs.Checks.{first_fault, answer};
+ghost use Rattle.checklist.specs.Checks.{first_fault, answer};
 ghost use Rattle.elf.specs.Layout.{sections, entry_at as entry_in};
 ghost use Rattle.rules.specs.Known.{Headed, Tabled};
 ghost use Rattle.rules.specs.Listing.{number_checks, marked};

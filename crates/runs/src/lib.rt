@@ -1,5 +1,8 @@
 // Runs of calls on a pile: what any list of calls does to a new pile over any section graph (specs/State.antt), what is promised of it
 // (specs/Promise.antt), and laws of it (specs/Laws.antt). A function here has a theorem for its contract, and nothing to do.
+
+#![tactic(auto)]
+
 ghost use Rattle.runs.specs.Promise.{PromiseStands};
 ghost use Rattle.runs.specs.Laws.{Draws, Refuses, RunFollows, PileTells, ClosesRight};
 ghost use Rattle.runs.specs.Seen.{PileSeen};

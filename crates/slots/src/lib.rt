@@ -1,4 +1,7 @@
 // The slots of a pile: what became of each section, and where following them ends.
+
+#![tactic(auto)]
+
 ghost use Rattle.std.specs.Prelude.{◌≡◌, ◌<◌, ◌≤◌, slice_set};
 ghost use Rattle.runs.specs.State.{slot_of, found_at};
 ghost use Rattle.runs.specs.Seen.{found_number};

@@ -1,4 +1,7 @@
 // What a section graph holds, in numbers.
+
+#![tactic(auto)]
+
 ghost use Rattle.std.specs.Prelude.{◌≡◌};
 ghost use Rattle.summary.specs.Summed.{summary_of, one_present, one_pinned, its_bytes, its_relocations};
 

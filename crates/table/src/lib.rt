@@ -1,4 +1,7 @@
 // Section tables: reading them, and answering every question about them from the text as it came.
+
+#![tactic(auto)]
+
 mod held;
 mod places;
 mod scan;

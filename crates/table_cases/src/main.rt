@@ -1,5 +1,8 @@
 // Runs the cases in data/cases, which tests/table_cases.py writes, and prints what becomes of each. A case is byte 1, its
 // name, byte 10, and the text.
+
+#![tactic(auto)]
+
 ghost use Rattle.std.specs.Prelude.{◌≤◌, length};
 
 use fault::Fault;

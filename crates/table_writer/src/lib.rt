@@ -1,4 +1,7 @@
 // The table of any section graph: how long it is, and its text written into a buffer.
+
+#![tactic(auto)]
+
 ghost use Rattle.std.specs.Prelude.{◌≡◌, ◌+◌, ◌-◌, ◌*◌, ◌≤◌, length, take, drop, Some};
 ghost use Rattle.model.specs.Graph.{section_of, record_of, root_count_of};
 ghost use Rattle.row_writer.specs.Writing.{small, wrote, put};

@@ -1,5 +1,8 @@
 // What a section unfolds to, which sections are alike, and the folded and the swept graph: definitions (specs/) and theorems on the
 // depths. A function here has a theorem for its contract, and nothing to do.
+
+#![tactic(auto)]
+
 ghost use Rattle.unfolding.specs.Theorems.{PresenceDecided, MarksTell, Narrows, GroupsLast, GroupsSettle, DepthDecides, RoundsAreLeast, LowestRepresents};
 ghost use Rattle.unfolding.specs.Matching.{AlikeMatches, MatchingAlike};
 ghost use Rattle.unfolding.specs.Examples.{ExamplesHold};

@@ -1,4 +1,7 @@
 // The command line: reads objects and section tables, says what they hold, and writes tables.
+
+#![tactic(auto)]
+
 mod check;
 mod graphs;
 mod options;

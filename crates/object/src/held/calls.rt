@@ -1,7 +1,7 @@
 // What a reader of objects does, and its answers as a section graph.
 ghost use Rattle.std.specs.Prelude.{◌≡◌};
-ghost use Rattle.check.specs.Checks.{answer};
-ghost use Rattle.check.specs.Laws.{Verdict};
+ghost use Rattle.checklist.specs.Checks.{answer};
+ghost use Rattle.checklist.specs.Laws.{Verdict};
 ghost use Rattle.rules.specs.Verdict.{checks, verdict};
 ghost use Rattle.model.specs.Graph.{empty};
 ghost use Rattle.object.specs.Reader.{graph_of, file_of, after};

@@ -1,5 +1,5 @@
 use Rattle.std.proofs.Common.{◌≡◌, None}
-use Rattle.check.specs.Checks.{first_fault, each}
+use Rattle.checklist.specs.Checks.{first_fault, each}
 use Rattle.rules.specs.Rules.{symbol_rule}
 use Rattle.reading.proofs.every_symbol.Given as goal
 

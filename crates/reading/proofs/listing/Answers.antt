@@ -4,8 +4,8 @@ use Rattle.std.proofs.lemmas.Result.{err_from_is_err_and}
 use Rattle.field.specs.declared.Number.{Number}
 use Rattle.field.specs.declared.Gathered.TheVariants.{More, Whole}
 use Rattle.field.specs.Uleb.{gathered, none_yet, misshapen}
-use Rattle.check.specs.Checks.{first_fault, answer}
-use Rattle.check.proofs.Checks.{ok_none, err_some, answer_some, answer_none}
+use Rattle.checklist.specs.Checks.{first_fault, answer}
+use Rattle.checklist.proofs.Checks.{ok_none, err_some, answer_some, answer_none}
 use Rattle.elf.specs.declared.Symbol.{Symbol}
 use Rattle.rules.specs.Rules.{symbols, symbol}
 use Rattle.rules.specs.Notes.{listed_in}

@@ -1,7 +1,7 @@
 use Rattle.std.proofs.Common.{◌≡◌, ℕ, Some, None, Ok, Err, sym, refl, ap, ◌∙◌, subst, arith}
 use Rattle.std.proofs.lemmas.Result.{err_from_is_err_and}
-use Rattle.check.specs.Checks.{first_fault, each}
-use Rattle.check.proofs.Checks.{ok_none, err_some}
+use Rattle.checklist.specs.Checks.{first_fault, each}
+use Rattle.checklist.proofs.Checks.{ok_none, err_some}
 use Rattle.field.specs.Fields.{long}
 use Rattle.field.proofs.Read.{read_is}
 use Rattle.elf.specs.Layout.{sections}

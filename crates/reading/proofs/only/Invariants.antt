@@ -1,5 +1,5 @@
 use Rattle.std.proofs.Common.{◌≡◌, None}
-use Rattle.check.specs.Checks.{first_fault, each}
+use Rattle.checklist.specs.Checks.{first_fault, each}
 use Rattle.rules.specs.Rules.{only_rule, first_where, of_kind}
 use Rattle.reading.proofs.only.Given as goal
 

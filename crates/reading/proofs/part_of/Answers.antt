@@ -1,7 +1,7 @@
 use Rattle.std.proofs.Common.{◌≡◌, ℕ, ◌+◌, ◌*◌, ◌/◌, Some, None, Ok, sym, refl, ap, ◌∙◌, arith}
 use Rattle.std.proofs.lemmas.Result.{err_from_is_err_and}
-use Rattle.check.specs.Checks.{first_fault, answer}
-use Rattle.check.proofs.Checks.{ok_none, err_some, answer_some, answer_none}
+use Rattle.checklist.specs.Checks.{first_fault, answer}
+use Rattle.checklist.proofs.Checks.{ok_none, err_some, answer_some, answer_none}
 use Rattle.elf.specs.Layout.{place, section}
 use Rattle.rules.specs.Rules.{part_checks, fit_checks, told_part}
 use Rattle.rules.specs.declared.Part.{Part}

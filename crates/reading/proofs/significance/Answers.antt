@@ -1,7 +1,7 @@
 use Rattle.std.proofs.Common.{◌≡◌, ℕ, map, Some, None, Ok, Err, Option, sym, refl, ap, ◌∙◌, arith}
 use Rattle.std.specs.List.{range_with_len}
-use Rattle.check.specs.Checks.{first_fault, answer}
-use Rattle.check.proofs.Checks.{answer_none}
+use Rattle.checklist.specs.Checks.{first_fault, answer}
+use Rattle.checklist.proofs.Checks.{answer_none}
 use Rattle.rules.specs.Rules.{symbols}
 use Rattle.rules.specs.Notes.{listed_in, marks}
 use Rattle.rules.specs.Listing.{significance_kind, listing_of, listing_rule, item_checks}

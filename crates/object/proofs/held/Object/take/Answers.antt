@@ -10,8 +10,8 @@ use Rattle.object.specs.Meaning.{meaning, told_section}
 use Rattle.object.specs.Held.{held, Kept}
 use Rattle.object.proofs.Holding.{kept_of}
 use Rattle.fault.specs.declared.Fault.{Fault}
-use Rattle.check.specs.Checks.{first_fault}
-use Rattle.check.proofs.Checks.{answer_some, answer_none, verdict as verdict_law}
+use Rattle.checklist.specs.Checks.{first_fault}
+use Rattle.checklist.proofs.Checks.{answer_some, answer_none, verdict as verdict_law}
 use Rattle.rules.specs.Known.{Ends}
 use Rattle.rules.specs.Verdict.{checks}
 use Rattle.object.specs.Reader.{after}

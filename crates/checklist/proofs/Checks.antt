@@ -3,8 +3,8 @@ use Rattle.std.proofs.Common.{◌≡◌, ℕ, zero, suc, ◌+◌, ◌<◌, ◌�
 use Rattle.std.specs.List.{slice_get}
 use Rattle.std.proofs.lemmas.Bool.{cases_eq, and_parts, and_from}
 use Rattle.fault.specs.declared.Fault.{Fault}
-use Rattle.check.specs.Checks.{Check, first_fault, all_hold, each, where_holds, answer}
-use Rattle.check.specs.Laws.{Breaks, Verdict, Verdicts}
+use Rattle.checklist.specs.Checks.{Check, first_fault, all_hold, each, where_holds, answer}
+use Rattle.checklist.specs.Laws.{Breaks, Verdict, Verdicts}
 
 -- what the answers of a reader say of its verdict
 pub ok_none : {A : Type 0} (o : Option Fault) (x y : A) → Ok x ≡ answer o y → (o ≡ None) × (x ≡ y)

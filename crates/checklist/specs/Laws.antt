@@ -2,7 +2,7 @@
 use Rattle.std.specs.Prelude.{◌≡◌, ℕ, ◌<◌, true, false, List, length, take, Some, None}
 use Rattle.std.specs.List.{slice_get}
 use Rattle.fault.specs.declared.Fault.{Fault}
-use Rattle.check.specs.Checks.{Check, first_fault, all_hold}
+use Rattle.checklist.specs.Checks.{Check, first_fault, all_hold}
 
 -- a check with this refusal that does not hold, where all before it do
 abbrev pub Breaks : List Check → Fault → Type 0

@@ -1,5 +1,8 @@
 // Rules as lists of checks in order. The definitions stand in specs/Checks.antt.
-ghost use Rattle.check.specs.Laws.{Verdicts};
+
+#![tactic(auto)]
+
+ghost use Rattle.checklist.specs.Laws.{Verdicts};
 
 // For every list of checks: nothing is refused exactly where all hold, and a refusal is that of the first check that
 // does not hold.
