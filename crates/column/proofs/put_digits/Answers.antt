@@ -13,8 +13,8 @@ loop-left-init c = (
 )
 
 -- a digit is left, so there is room for it
-in-turn : (c : goal.In-loop-left) → 0 < c.loop-left.at
-in-turn c =
+in_turn : (c : goal.In-loop-left) → 0 < c.loop-left.at
+in_turn c =
     room c.loop-left.left c.args.value c.loop-left.out c.loop-left.at (omega arith) (omega arith)
     c.loop-left.invariant.2
     (omega arith)
@@ -26,17 +26,17 @@ at_last c =
     (omega arith)
 
 pub overflow_sub-at : goal.overflow_sub-at
-overflow_sub-at c = in-turn c
+overflow_sub-at c = in_turn c
 
 pub bounds-out-at : goal.bounds-out-at
-bounds-out-at c = omega (arith, in-turn c)
+bounds-out-at c = omega (arith, in_turn c)
 
 pub loop-left-preserved : goal.loop-left-preserved
 loop-left-preserved c = (
   omega arith,
   simp length-set (omega arith),
   digit_put c.loop-left.left c.args.value c.loop-left.out c.loop-left.at (omega arith) (omega arith)
-      (in-turn c)
+      (in_turn c)
       (omega arith)
       c.loop-left.invariant.2,
   rest_kept c.args.out.now c.loop-left.out c.loop-left.at _ _ (omega arith) c.loop-left.invariant.3,

@@ -4,7 +4,7 @@ use Rattle.content.specs.Core.{told_count, bare, mixed_arms}
 use Rattle.content.specs.Aims.{relocations_in}
 use Rattle.content.proofs.Cores.{digest_some, digest_none, digest_end}
 use Rattle.content.proofs.content_digest.Goals as goal
-use Rattle.content.proofs.content_digest.Goals.{in-Some, in-default}
+use Rattle.content.proofs.content_digest.Goals.{in-Some, in_default}
 
 pub loop-j-preserved : goal.loop-j-preserved
 loop-j-preserved g c =
@@ -14,9 +14,9 @@ loop-j-preserved g c =
       | in-Some w ↦
           ap (λ (h : ℕ). mixed_arms h (map bare (drop (j + 1) (relocations_in o)))) (w.digest-is ∙ w.mix_link-digest.ensures) ∙
           (digest_some o c.loop-j.digest j w.in-Some.r (sym c.relocation.ensures ∙ w.in-Some.is) ∙ c.loop-j.invariant)
-      | in-default w ↦
+      | in_default w ↦
           ap (λ (h : ℕ). mixed_arms h (map bare (drop (j + 1) (relocations_in o)))) w.digest-is ∙
-          (digest_none o c.loop-j.digest j (sym c.relocation.ensures ∙ w.in-default.is) ∙ c.loop-j.invariant)
+          (digest_none o c.loop-j.digest j (sym c.relocation.ensures ∙ w.in_default.is) ∙ c.loop-j.invariant)
     ]
 
 pub returns : goal.returns

@@ -5,24 +5,24 @@ use Rattle.field.specs.declared.Gathered.TheVariants.{More, Whole}
 use Rattle.field.proofs.Onward.{turn}
 use Rattle.field.proofs.uleb.Goals as goal
 
-pub returns-in-err-m : goal.returns-in-err-m
-returns-in-err-m c =
+pub returns-in_err-m : goal.returns-in_err-m
+returns-in_err-m c =
     let p = err_from_is_err_and c.from_residual.result c.from_residual.ensures.1
     in rw (p.1, p.2)
     (turn c.args.bytes.now c.loop-x.x-index c.args.first c.loop-x.n (Err _)
-    (omega arith) (c.type_inv.bytes c.loop-x.x-index).fits c.loop-x.invariant c.in-err-m.ensures)
+    (omega arith) (c.type_inv.bytes c.loop-x.x-index).fits c.loop-x.invariant c.in_err-m.ensures)
 
 pub returns-in-Whole : goal.returns-in-Whole
 returns-in-Whole c =
     turn c.args.bytes.now c.loop-x.x-index c.args.first c.loop-x.n (Ok (Whole c.in-Whole.m))
     (omega arith) (c.type_inv.bytes c.loop-x.x-index).fits c.loop-x.invariant
-    (sym (ap Ok c.in-Whole.is) ∙ c.in-ok-m.ensures)
+    (sym (ap Ok c.in-Whole.is) ∙ c.in_ok-m.ensures)
 
 pub loop-x-preserved : goal.loop-x-preserved
 loop-x-preserved c =
     turn c.args.bytes.now c.loop-x.x-index c.args.first c.loop-x.n (Ok (More c.in-More.m))
     (omega arith) (c.type_inv.bytes c.loop-x.x-index).fits c.loop-x.invariant
-    (sym (ap Ok c.in-More.is) ∙ c.in-ok-m.ensures)
+    (sym (ap Ok c.in-More.is) ∙ c.in_ok-m.ensures)
 
 pub returns : goal.returns
 returns c =

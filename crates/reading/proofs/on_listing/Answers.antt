@@ -15,40 +15,40 @@ use Rattle.rules.specs.Known.{Headed, Tabled}
 use Rattle.reading.proofs.Ending.{ends_err, ends_on, headed, tabled}
 use Rattle.reading.proofs.on_listing.Goals as goal
 
-pub returns-in-err-table : goal.returns-in-err-table
-returns-in-err-table c =
+pub returns-in_err-table : goal.returns-in_err-table
+returns-in_err-table c =
     let b = c.args.b.now
-    in let f = c.in-err-table.field-0.0
+    in let f = c.in_err-table.field-0.0
     in let p = err_from_is_err_and c.from_residual.result c.from_residual.ensures.1
     in rw (p.1, p.2)
     (ends_err b (each (only_rule significance_kind b) (sections b)) (listing_rule b) f
     (ap (λ (x : ℕ). first_fault (each (only_rule significance_kind b) x)) (sym c.requires.0.count_right)
-    ∙ err_some (first_fault (each (only_rule significance_kind b) c.args.n)) f (first_where (of_kind significance_kind b) c.args.n) c.in-err-table.ensures))
+    ∙ err_some (first_fault (each (only_rule significance_kind b) c.args.n)) f (first_where (of_kind significance_kind b) c.args.n) c.in_err-table.ensures))
 
 pub significance-requires : goal.significance-requires
 significance-requires c =
     let b = c.args.b.now
-    in let found = ok_none (first_fault (each (only_rule significance_kind b) c.args.n)) c.in-ok-table.table (first_where (of_kind significance_kind b) c.args.n) c.in-ok-table.ensures
+    in let found = ok_none (first_fault (each (only_rule significance_kind b) c.args.n)) c.in_ok-table.table (first_where (of_kind significance_kind b) c.args.n) c.in_ok-table.ensures
     in (c.requires.0, (found.1 ∙ ap (first_where (of_kind significance_kind b)) c.requires.0.count_right, (c.requires.1.1.0, c.requires.1.1.1)))
 
-pub returns-in-err-listed : goal.returns-in-err-listed
-returns-in-err-listed c =
+pub returns-in_err-listed : goal.returns-in_err-listed
+returns-in_err-listed c =
     let b = c.args.b.now
-    in let f = c.in-err-listed.field-0.0
-    in let found = ok_none (first_fault (each (only_rule significance_kind b) c.args.n)) c.in-ok-table.table (first_where (of_kind significance_kind b) c.args.n) c.in-ok-table.ensures
-    in let p = err_from_is_err_and c.from_residual-in-err-listed.result c.from_residual-in-err-listed.ensures.1
+    in let f = c.in_err-listed.field-0.0
+    in let found = ok_none (first_fault (each (only_rule significance_kind b) c.args.n)) c.in_ok-table.table (first_where (of_kind significance_kind b) c.args.n) c.in_ok-table.ensures
+    in let p = err_from_is_err_and c.from_residual-in_err-listed.result c.from_residual-in_err-listed.ensures.1
     in rw (p.1, p.2)
     (ends_on b (each (only_rule significance_kind b) (sections b)) (listing_rule b) (Err f)
     (ap (λ (x : ℕ). first_fault (each (only_rule significance_kind b) x)) (sym c.requires.0.count_right) ∙ found.0)
-    (err_some (first_fault (listing_rule b)) f (marks b) c.in-err-listed.ensures))
+    (err_some (first_fault (listing_rule b)) f (marks b) c.in_err-listed.ensures))
 
 pub returns : goal.returns
 returns c =
     let b = c.args.b.now
     in let known = c.requires.0
-    in let found = ok_none (first_fault (each (only_rule significance_kind b) c.args.n)) c.in-ok-table.table (first_where (of_kind significance_kind b) c.args.n) c.in-ok-table.ensures
-    in let listed = ok_none (first_fault (listing_rule b)) c.in-ok-listed.listed (marks b) c.in-ok-listed.ensures
-    in let rooted = c.in-ok-kept.ensures
+    in let found = ok_none (first_fault (each (only_rule significance_kind b) c.args.n)) c.in_ok-table.table (first_where (of_kind significance_kind b) c.args.n) c.in_ok-table.ensures
+    in let listed = ok_none (first_fault (listing_rule b)) c.in_ok-listed.listed (marks b) c.in_ok-listed.ensures
+    in let rooted = c.in_ok-kept.ensures
     in ends_on b (each (only_rule significance_kind b) (sections b)) (listing_rule b) (Ok _)
     (ap (λ (x : ℕ). first_fault (each (only_rule significance_kind b) x)) (sym known.count_right) ∙ found.0) (
       listed.0,

@@ -14,21 +14,21 @@ use Rattle.rules.specs.Known.{Headed, Tabled}
 use Rattle.reading.proofs.Ending.{ends_err, ends_on, headed, tabled}
 use Rattle.reading.proofs.on_table.Goals as goal
 
-pub returns-in-err-symbols : goal.returns-in-err-symbols
-returns-in-err-symbols c =
+pub returns-in_err-symbols : goal.returns-in_err-symbols
+returns-in_err-symbols c =
     let b = c.args.b.now
-    in let f = c.in-err-symbols.field-0.0
+    in let f = c.in_err-symbols.field-0.0
     in let p = err_from_is_err_and c.from_residual.result c.from_residual.ensures.1
-    in rw (p.1, p.2) (ends_err b (table_rule b) (from_relocations b) f (err_some (first_fault (table_rule b)) f (symbols b) c.in-err-symbols.ensures))
+    in rw (p.1, p.2) (ends_err b (table_rule b) (from_relocations b) f (err_some (first_fault (table_rule b)) f (symbols b) c.in_err-symbols.ensures))
 
 pub on_relocations-requires : goal.on_relocations-requires
 on_relocations-requires c =
     let b = c.args.b.now
-    in let good = ok_none (first_fault (table_rule b)) c.in-ok-symbols.symbols (symbols b) c.in-ok-symbols.ensures
+    in let good = ok_none (first_fault (table_rule b)) c.in_ok-symbols.symbols (symbols b) c.in_ok-symbols.ensures
     in (c.requires.0, (c.requires.1.0, (subst (Tabled b) (sym good.1) (tabled b c.args.first c.args.n c.requires.0 c.requires.1.1), c.requires.1.1)))
 
 pub returns : goal.returns
 returns c =
     let b = c.args.b.now
-    in let good = ok_none (first_fault (table_rule b)) c.in-ok-symbols.symbols (symbols b) c.in-ok-symbols.ensures
+    in let good = ok_none (first_fault (table_rule b)) c.in_ok-symbols.symbols (symbols b) c.in_ok-symbols.ensures
     in ends_on b (table_rule b) (from_relocations b) c.on_relocations.result good.0 c.on_relocations.ensures

@@ -37,7 +37,7 @@ loop-j-preserved c =
     let b = c.args.b.now
     in let m = c.in-Some.part
     in let q : ℕ = m.from + 24 * c.loop-j.j
-    in let none = ok_none (first_fault (entry_checks b m.size q (entry_at b q))) c.in-default.field-0 tt c.in-default.ensures
+    in let none = ok_none (first_fault (entry_checks b m.size q (entry_at b q))) c.in_default.field-0 tt c.in_default.ensures
     in entry_more b c.reading.i _ _ m c.loop-j.j c.loop-j.invariant none.0
 
 pub reading-preserved : goal.reading-preserved

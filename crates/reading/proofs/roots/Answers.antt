@@ -9,7 +9,7 @@ pub loop-i-preserved : goal.loop-i-preserved
 loop-i-preserved c =
     let b = c.args.b.now
     in let i = c.loop-i.i
-    in let h = header_is b c.args.first c.args.n i c.in-ok-h.h c.requires c.in-ok-h.ensures
+    in let h = header_is b c.args.first c.args.n i c.in_ok-h.h c.requires c.in_ok-h.ensures
     in elim c.if-root.branch [
       | then-root w ↦
           moved b (i + 1) c.if-root.found (set c.loop-i.found c.loop-i.count i) c.if-root.count (c.loop-i.count + 1) w.found-is w.count-is

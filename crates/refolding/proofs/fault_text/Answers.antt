@@ -8,4 +8,4 @@ returns c =
     filled (fault_row c.args.fault.now) _ _ _ _
     c.write_fault.ensures.text
     c.as_mut_slice.ensures.len
-    (c.in-ok-text.ensures.len ∙ c.row_length.ensures)
+    (c.in_ok-text.ensures.len ∙ c.row_length.ensures)

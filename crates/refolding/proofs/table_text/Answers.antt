@@ -8,4 +8,4 @@ returns g c =
     filled (text_of (g.G.SectionGraph.graph c.args.graph.now)) _ _ _ _
     c.write_table.ensures.text
     c.as_mut_slice.ensures.len
-    (c.in-ok-text.ensures.len ∙ c.table_length.ensures)
+    (c.in_ok-text.ensures.len ∙ c.table_length.ensures)

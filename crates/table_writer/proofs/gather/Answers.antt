@@ -4,7 +4,7 @@ use Rattle.model.specs.Graph.{section_of}
 use Rattle.table_writer.specs.Texts.{bytes_in}
 use Rattle.table_writer.proofs.Texts.{byte_more, byte_answered}
 use Rattle.table_writer.proofs.gather.Goals as goal
-use Rattle.table_writer.proofs.gather.Goals.{in-Some, in-default}
+use Rattle.table_writer.proofs.gather.Goals.{in-Some, in_default}
 
 pub loop-i-preserved : goal.loop-i-preserved
 loop-i-preserved g c =
@@ -22,5 +22,5 @@ loop-i-preserved g c =
             w.in-Some.is,
         ap length w.row-is ∙ length-set c.loop-i.row (c.loop-i.i - c.args.start) w.in-Some.b ∙ c.loop-i.invariant.1,
       )
-      | in-default w ↦ absurd (byte_answered o c.loop-i.i c.byte.result low c.byte.ensures w.in-default.is)
+      | in_default w ↦ absurd (byte_answered o c.loop-i.i c.byte.result low c.byte.ensures w.in_default.is)
     ]

@@ -1,7 +1,7 @@
 use Rattle.std.proofs.Common.{◌<◌, ◌≤◌, length, arith}
 use Rattle.table_writer.proofs.Lengths.{length_more, length_same, length_all, table_length}
 use Rattle.table_writer.proofs.sections_length.Goals as goal
-use Rattle.table_writer.proofs.sections_length.Goals.{in-Some, in-default}
+use Rattle.table_writer.proofs.sections_length.Goals.{in-Some, in_default}
 
 pub loop-s-preserved : goal.loop-s-preserved
 loop-s-preserved g c =
@@ -11,8 +11,8 @@ loop-s-preserved g c =
       | in-Some w ↦
           let e = length_more bs c.loop-s.s c.record_of.result w.in-Some.record low c.record_of.ensures w.in-Some.is in
           (omega (arith, w.sum-is, e, w.section_length-sum.ensures.long), omega (arith, w.sum-is, w.section_length-sum.ensures.few))
-      | in-default w ↦
-          let e = length_same bs c.loop-s.s c.record_of.result low c.record_of.ensures w.in-default.is in
+      | in_default w ↦
+          let e = length_same bs c.loop-s.s c.record_of.result low c.record_of.ensures w.in_default.is in
           (omega (arith, w.sum-is, e), omega (arith, w.sum-is))
     ]
 

@@ -19,16 +19,16 @@ ahead bs b at out start count row low size same w =
     (bytes_more bs start (start + count) (take 16 (take count row)) low (omega arith) (row_taken bs row start count few same))
     w
 
-pub returns-in-err-at : goal.returns-in-err-at
-returns-in-err-at g c =
+pub returns-in_err-at : goal.returns-in_err-at
+returns-in_err-at g c =
     let bs = bytes_in (section_of (g.G.SectionGraph.graph c.args.graph.now) c.args.s) in
     let low : c.loop-start.start < length bs = omega (arith, c.loop-start-test.true, c.requires.size) in
     let size : c.min-count.result ≡ min (length bs - c.loop-start.start) 16 = omega (arith, c.min-count.ensures, c.requires.size) in
     let w = ahead bs c.args.out.now c.loop-start.at c.loop-start.out c.loop-start.start c.min-count.result c.gather-row.result low size c.gather-row.ensures c.loop-start.invariant.0 in
     absurd
-    (accepted (bytes_text bs) c.args.out.now c.requires.room c.loop-start.at c.loop-start.out _ _ c.write_bytes.result c.in-err-at.field-0.0 w
+    (accepted (bytes_text bs) c.args.out.now c.requires.room c.loop-start.at c.loop-start.out _ _ c.write_bytes.result c.in_err-at.field-0.0 w
     c.write_bytes.ensures.answer
-    c.in-err-at.was)
+    c.in_err-at.was)
 
 pub overflow_add-at : goal.overflow_add-at
 overflow_add-at g c =
@@ -36,10 +36,10 @@ overflow_add-at g c =
     let low : c.loop-start.start < length bs = omega (arith, c.loop-start-test.true, c.requires.size) in
     let size : c.min-count.result ≡ min (length bs - c.loop-start.start) 16 = omega (arith, c.min-count.ensures, c.requires.size) in
     let w = ahead bs c.args.out.now c.loop-start.at c.loop-start.out c.loop-start.start c.min-count.result c.gather-row.result low size c.gather-row.ensures c.loop-start.invariant.0 in
-    let h : c.loop-start.at + c.in-ok-at.field-0 ≤ length c.loop-start.out =
-    ends_inside (bytes_text bs) c.args.out.now c.requires.room c.loop-start.at c.loop-start.out _ _ c.write_bytes.result c.in-ok-at.field-0 w
+    let h : c.loop-start.at + c.in_ok-at.field-0 ≤ length c.loop-start.out =
+    ends_inside (bytes_text bs) c.args.out.now c.requires.room c.loop-start.at c.loop-start.out _ _ c.write_bytes.result c.in_ok-at.field-0 w
     c.write_bytes.ensures.answer
-    c.in-ok-at.was in
+    c.in_ok-at.was in
     search rules
 
 pub loop-start-preserved : goal.loop-start-preserved
@@ -49,9 +49,9 @@ loop-start-preserved g c =
     let size : c.min-count.result ≡ min (length bs - c.loop-start.start) 16 = omega (arith, c.min-count.ensures, c.requires.size) in
     let a = ahead bs c.args.out.now c.loop-start.at c.loop-start.out c.loop-start.start c.min-count.result c.gather-row.result low size c.gather-row.ensures c.loop-start.invariant.0 in
     let n =
-    next (bytes_text bs) c.args.out.now c.requires.room c.loop-start.at c.loop-start.out _ _ c.write_bytes.result c.in-ok-at.field-0 c.write_bytes.new.out a
+    next (bytes_text bs) c.args.out.now c.requires.room c.loop-start.at c.loop-start.out _ _ c.write_bytes.result c.in_ok-at.field-0 c.write_bytes.new.out a
     c.write_bytes.ensures.answer
-    c.in-ok-at.was
+    c.in_ok-at.was
     c.write_bytes.ensures.text in
     (n, omega (arith, size, c.requires.size), inside (bytes_text bs) c.args.out.now _ _ _ n)
 

@@ -27,76 +27,76 @@ write_roots-requires g c =
       room = first_room (closing_text x) c.args.out.now c.requires.room _ _ (closing_parts x (present_count x.sections) refl);
     }
 
-pub returns-in-err-at : goal.returns-in-err-at
-returns-in-err-at g c =
+pub returns-in_err-at : goal.returns-in_err-at
+returns-in_err-at g c =
     let x = g.G.SectionGraph.graph c.args.graph.now in
     absurd
-    (first_accepted (closing_text x) c.args.out.now c.requires.room _ _ c.write_roots.result c.in-err-at.field-0.0
+    (first_accepted (closing_text x) c.args.out.now c.requires.room _ _ c.write_roots.result c.in_err-at.field-0.0
     (closing_parts x (present_count x.sections) refl)
     c.write_roots.ensures.answer
-    c.in-err-at.was)
+    c.in_err-at.was)
 
 pub slice_bounds-write_end-count : goal.slice_bounds-write_end-count
 slice_bounds-write_end-count g c =
     let x = g.G.SectionGraph.graph c.args.graph.now in
     let w =
-    one x c.args.out.now c.write_roots.result c.in-ok-at.at c.write_roots.new.out c.present.result c.requires.room c.present.ensures
+    one x c.args.out.now c.write_roots.result c.in_ok-at.at c.write_roots.new.out c.present.result c.requires.room c.present.ensures
     c.write_roots.ensures.answer
-    c.in-ok-at.was
+    c.in_ok-at.was
     c.write_roots.ensures.text in
-    inside (closing_text x) c.args.out.now c.in-ok-at.at c.write_roots.new.out _ w
+    inside (closing_text x) c.args.out.now c.in_ok-at.at c.write_roots.new.out _ w
 
 pub slice_bounds-write_end-start : goal.slice_bounds-write_end-start
 slice_bounds-write_end-start g c =
     let x = g.G.SectionGraph.graph c.args.graph.now in
     let w =
-    one x c.args.out.now c.write_roots.result c.in-ok-at.at c.write_roots.new.out c.present.result c.requires.room c.present.ensures
+    one x c.args.out.now c.write_roots.result c.in_ok-at.at c.write_roots.new.out c.present.result c.requires.room c.present.ensures
     c.write_roots.ensures.answer
-    c.in-ok-at.was
+    c.in_ok-at.was
     c.write_roots.ensures.text in
-    let h : c.in-ok-at.at ≤ length c.write_roots.new.out =
-    inside (closing_text x) c.args.out.now c.in-ok-at.at c.write_roots.new.out _ w in
+    let h : c.in_ok-at.at ≤ length c.write_roots.new.out =
+    inside (closing_text x) c.args.out.now c.in_ok-at.at c.write_roots.new.out _ w in
     search rules
 
-pub returns-in-err-at-2 : goal.returns-in-err-at-2
-returns-in-err-at-2 g c =
+pub returns-in_err-at-2 : goal.returns-in_err-at-2
+returns-in_err-at-2 g c =
     let x = g.G.SectionGraph.graph c.args.graph.now in
     let w =
-    one x c.args.out.now c.write_roots.result c.in-ok-at.at c.write_roots.new.out c.present.result c.requires.room c.present.ensures
+    one x c.args.out.now c.write_roots.result c.in_ok-at.at c.write_roots.new.out c.present.result c.requires.room c.present.ensures
     c.write_roots.ensures.answer
-    c.in-ok-at.was
+    c.in_ok-at.was
     c.write_roots.ensures.text in
     absurd
-    (accepted (closing_text x) c.args.out.now c.requires.room c.in-ok-at.at c.write_roots.new.out _ _ c.write_end.result c.in-err-at-2.field-0.0 w
+    (accepted (closing_text x) c.args.out.now c.requires.room c.in_ok-at.at c.write_roots.new.out _ _ c.write_end.result c.in_err-at-2.field-0.0 w
     c.write_end.ensures.answer
-    c.in-err-at-2.was)
+    c.in_err-at-2.was)
 
 pub overflow_add-at : goal.overflow_add-at
 overflow_add-at g c =
     let x = g.G.SectionGraph.graph c.args.graph.now in
     let w =
-    one x c.args.out.now c.write_roots.result c.in-ok-at.at c.write_roots.new.out c.present.result c.requires.room c.present.ensures
+    one x c.args.out.now c.write_roots.result c.in_ok-at.at c.write_roots.new.out c.present.result c.requires.room c.present.ensures
     c.write_roots.ensures.answer
-    c.in-ok-at.was
+    c.in_ok-at.was
     c.write_roots.ensures.text in
-    let h : c.in-ok-at.at + c.in-ok-at-2.field-0 ≤ length c.write_roots.new.out =
-    ends_inside (closing_text x) c.args.out.now c.requires.room c.in-ok-at.at c.write_roots.new.out _ _ c.write_end.result c.in-ok-at-2.field-0 w
+    let h : c.in_ok-at.at + c.in_ok-at-2.field-0 ≤ length c.write_roots.new.out =
+    ends_inside (closing_text x) c.args.out.now c.requires.room c.in_ok-at.at c.write_roots.new.out _ _ c.write_end.result c.in_ok-at-2.field-0 w
     c.write_end.ensures.answer
-    c.in-ok-at-2.was in
+    c.in_ok-at-2.was in
     search rules
 
 pub returns : goal.returns
 returns g c =
     let x = g.G.SectionGraph.graph c.args.graph.now in
     let w =
-    one x c.args.out.now c.write_roots.result c.in-ok-at.at c.write_roots.new.out c.present.result c.requires.room c.present.ensures
+    one x c.args.out.now c.write_roots.result c.in_ok-at.at c.write_roots.new.out c.present.result c.requires.room c.present.ensures
     c.write_roots.ensures.answer
-    c.in-ok-at.was
+    c.in_ok-at.was
     c.write_roots.ensures.text in
     let n =
-    next (closing_text x) c.args.out.now c.requires.room c.in-ok-at.at c.write_roots.new.out _ _ c.write_end.result c.in-ok-at-2.field-0 c.write_end.new.out w
+    next (closing_text x) c.args.out.now c.requires.room c.in_ok-at.at c.write_roots.new.out _ _ c.write_end.result c.in_ok-at-2.field-0 c.write_end.new.out w
     c.write_end.ensures.answer
-    c.in-ok-at-2.was
+    c.in_ok-at-2.was
     c.write_end.ensures.text in
     let f = finish (closing_text x) c.args.out.now c.requires.room _ _ n in
     record { answer = f.0; text = f.1 }

@@ -4,7 +4,7 @@ use Rattle.table_writer.specs.Texts.{section_text, sections_text}
 use Rattle.table_writer.proofs.Fronts.{Written, lent_room, accepted, ends_inside, next, inside, finish, restated}
 use Rattle.table_writer.proofs.Texts.{sections_more, sections_all, section_absent}
 use Rattle.table_writer.proofs.write_sections.Goals as goal
-use Rattle.table_writer.proofs.write_sections.Goals.{in-Some+in-ok-at, in-default}
+use Rattle.table_writer.proofs.write_sections.Goals.{in-Some+in_ok-at, in_default}
 
 -- the next section's rows come first of what is left
 ahead : (bs : List (Option Body)) (b : List ℕ) (at : ℕ) (out : List ℕ) (s : ℕ)
@@ -13,25 +13,25 @@ ahead : (bs : List (Option Body)) (b : List ℕ) (at : ℕ) (out : List ℕ) (s 
     → Written (sections_text 0 bs) b at out (section_text s (get_or bs s None) ++ sections_text (s + 1) (drop (s + 1) bs))
 ahead bs b at out s low w = restated (sections_text 0 bs) b at at out out _ _ refl refl (sections_more bs s low) w
 
-pub returns-in-err-at : goal.returns-in-err-at
-returns-in-err-at g c =
+pub returns-in_err-at : goal.returns-in_err-at
+returns-in_err-at g c =
     let ts = (g.G.SectionGraph.graph c.args.graph.now).sections in
     let low : c.loop-s.s < length ts = omega (arith, c.loop-s-test.true, c.count-s-end.ensures) in
     let w = ahead ts c.args.out.now c.loop-s.at c.loop-s.out c.loop-s.s low c.loop-s.invariant.0 in
     absurd
-    (accepted (sections_text 0 ts) c.args.out.now c.requires.room c.loop-s.at c.loop-s.out _ _ c.write_section_rows.result c.in-err-at.field-0.0 w
+    (accepted (sections_text 0 ts) c.args.out.now c.requires.room c.loop-s.at c.loop-s.out _ _ c.write_section_rows.result c.in_err-at.field-0.0 w
     c.write_section_rows.ensures.answer
-    c.in-err-at.was)
+    c.in_err-at.was)
 
 pub overflow_add-at : goal.overflow_add-at
 overflow_add-at g c =
     let ts = (g.G.SectionGraph.graph c.args.graph.now).sections in
     let low : c.loop-s.s < length ts = omega (arith, c.loop-s-test.true, c.count-s-end.ensures) in
     let w = ahead ts c.args.out.now c.loop-s.at c.loop-s.out c.loop-s.s low c.loop-s.invariant.0 in
-    let h : c.loop-s.at + c.in-ok-at.field-0 ≤ length c.loop-s.out =
-    ends_inside (sections_text 0 ts) c.args.out.now c.requires.room c.loop-s.at c.loop-s.out _ _ c.write_section_rows.result c.in-ok-at.field-0 w
+    let h : c.loop-s.at + c.in_ok-at.field-0 ≤ length c.loop-s.out =
+    ends_inside (sections_text 0 ts) c.args.out.now c.requires.room c.loop-s.at c.loop-s.out _ _ c.write_section_rows.result c.in_ok-at.field-0 w
     c.write_section_rows.ensures.answer
-    c.in-ok-at.was in
+    c.in_ok-at.was in
     search rules
 
 pub loop-s-preserved : goal.loop-s-preserved
@@ -39,19 +39,19 @@ loop-s-preserved g c =
     let ts = (g.G.SectionGraph.graph c.args.graph.now).sections in
     let low : c.loop-s.s < length ts = omega (arith, c.loop-s-test.true, c.count-s-end.ensures) in
     elim c.match-record_of.branch [
-      | in-Some+in-ok-at w ↦
+      | in-Some+in_ok-at w ↦
           let a = ahead ts c.args.out.now c.loop-s.at c.loop-s.out c.loop-s.s low c.loop-s.invariant.0 in
           let n =
-          next (sections_text 0 ts) c.args.out.now c.requires.room c.loop-s.at c.loop-s.out _ _ w.write_section_rows.result w.in-ok-at.field-0 w.write_section_rows.new.out a
+          next (sections_text 0 ts) c.args.out.now c.requires.room c.loop-s.at c.loop-s.out _ _ w.write_section_rows.result w.in_ok-at.field-0 w.write_section_rows.new.out a
           w.write_section_rows.ensures.answer
-          w.in-ok-at.was
+          w.in_ok-at.was
           w.write_section_rows.ensures.text in
           let m = restated (sections_text 0 ts) c.args.out.now _ c.match-record_of.at _ c.match-record_of.out _ _ w.at-is w.out-is refl n in
           (m, inside (sections_text 0 ts) c.args.out.now c.match-record_of.at c.match-record_of.out _ m)
-      | in-default w ↦
+      | in_default w ↦
           let m =
           restated (sections_text 0 ts) c.args.out.now _ c.match-record_of.at _ c.match-record_of.out _ _ w.at-is w.out-is
-          (section_absent ts c.loop-s.s c.record_of.result low c.record_of.ensures w.in-default.is)
+          (section_absent ts c.loop-s.s c.record_of.result low c.record_of.ensures w.in_default.is)
           c.loop-s.invariant.0 in
           (m, inside (sections_text 0 ts) c.args.out.now c.match-record_of.at c.match-record_of.out _ m)
     ]

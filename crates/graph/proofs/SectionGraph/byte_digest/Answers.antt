@@ -3,7 +3,7 @@ use Rattle.model.specs.Graph.{section_of, told_record}
 use Rattle.graph.specs.Bytes.{bytes_in, told_size, digest_from}
 use Rattle.graph.proofs.Told.{digest_some, digest_none, digest_end}
 use Rattle.graph.proofs.SectionGraph.byte_digest.Goals as goal
-use Rattle.graph.proofs.SectionGraph.byte_digest.Goals.{in-Some, in-default}
+use Rattle.graph.proofs.SectionGraph.byte_digest.Goals.{in-Some, in_default}
 
 pub loop-i-preserved : goal.loop-i-preserved
 loop-i-preserved g c =
@@ -13,9 +13,9 @@ loop-i-preserved g c =
       | in-Some w ↦
           ap (λ (h : ℕ). digest_from h (drop (i + 1) (bytes_in o))) (w.digest-is ∙ w.mix-digest.ensures) ∙
           (digest_some o c.loop-i.digest i w.in-Some.x (sym c.byte.ensures ∙ w.in-Some.is) ∙ c.loop-i.invariant)
-      | in-default w ↦
+      | in_default w ↦
           ap (λ (h : ℕ). digest_from h (drop (i + 1) (bytes_in o))) w.digest-is ∙
-          (digest_none o c.loop-i.digest i (sym c.byte.ensures ∙ w.in-default.is) ∙ c.loop-i.invariant)
+          (digest_none o c.loop-i.digest i (sym c.byte.ensures ∙ w.in_default.is) ∙ c.loop-i.invariant)
     ]
 
 pub returns : goal.returns

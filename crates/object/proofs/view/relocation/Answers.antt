@@ -20,14 +20,14 @@ use Rattle.object.proofs.view.relocation.Goals as goal
 
 pub part_header-requires : goal.part_header-requires
 part_header-requires c =
-    let at = shown_some c.args.b.now c.args.s c.in-Some.-h c.in-Some.ensures
+    let at = shown_some c.args.b.now c.args.s c.in-Some._h c.in-Some.ensures
     in (c.requires.0, (c.requires.1, at.0))
 
 pub returns-then-j-r : goal.returns-then-j-r
 returns-then-j-r c =
     let b = c.args.b.now
     in let s = c.args.s
-    in let at = shown_some b s c.in-Some.-h c.in-Some.ensures
+    in let at = shown_some b s c.in-Some._h c.in-Some.ensures
     in let f = held_facts b s c.requires.0 at.0
     in let pr = part_is b s c.in-Some-part_header.r (part b s (sections b)) c.in-Some-part_header.ensures
     in let w = whole b s pr.0 f pr.1
@@ -40,7 +40,7 @@ pub overflow_add-r : goal.overflow_add-r
 overflow_add-r c =
     let b = c.args.b.now
     in let s = c.args.s
-    in let at = shown_some b s c.in-Some.-h c.in-Some.ensures
+    in let at = shown_some b s c.in-Some._h c.in-Some.ensures
     in let f = held_facts b s c.requires.0 at.0
     in let pr = part_is b s c.in-Some-part_header.r (part b s (sections b)) c.in-Some-part_header.ensures
     in let w = whole b s pr.0 f pr.1
@@ -52,7 +52,7 @@ pub relocation_at-requires : goal.relocation_at-requires
 relocation_at-requires c =
     let b = c.args.b.now
     in let s = c.args.s
-    in let at = shown_some b s c.in-Some.-h c.in-Some.ensures
+    in let at = shown_some b s c.in-Some._h c.in-Some.ensures
     in let f = held_facts b s c.requires.0 at.0
     in let pr = part_is b s c.in-Some-part_header.r (part b s (sections b)) c.in-Some-part_header.ensures
     in let w = whole b s pr.0 f pr.1
@@ -68,7 +68,7 @@ pub returns-in-None-part_header : goal.returns-in-None-part_header
 returns-in-None-part_header c =
     let b = c.args.b.now
     in let s = c.args.s
-    in let at = shown_some b s c.in-Some.-h c.in-Some.ensures
+    in let at = shown_some b s c.in-Some._h c.in-Some.ensures
     in let f = held_facts b s c.requires.0 at.0
     in sym (ap (λ (o : Option Body). told_relocation o c.args.j) (shown_body b s at.0 at.1)
     ∙ ap (λ (o : Option ℕ). slice_get (relocations_in b o) c.args.j) (part_gone b (part b s (sections b)) c.in-None-part_header.ensures))
@@ -77,7 +77,7 @@ pub returns-else-j-r : goal.returns-else-j-r
 returns-else-j-r c =
     let b = c.args.b.now
     in let s = c.args.s
-    in let at = shown_some b s c.in-Some.-h c.in-Some.ensures
+    in let at = shown_some b s c.in-Some._h c.in-Some.ensures
     in let f = held_facts b s c.requires.0 at.0
     in let pr = part_is b s c.in-Some-part_header.r (part b s (sections b)) c.in-Some-part_header.ensures
     in let w = whole b s pr.0 f pr.1

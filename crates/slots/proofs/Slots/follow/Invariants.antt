@@ -3,4 +3,4 @@ use Rattle.runs.specs.State.{followed, found_at}
 use Rattle.slots.proofs.Slots.follow.Given as goal
 
 abbrev pub invariant-loop-k : goal.invariant-loop-k
-invariant-loop-k l = followed (suc l.s - l.-k) l.self.list l.at ≡ found_at l.self.list l.s
+invariant-loop-k l = followed (suc l.s - l._k) l.self.list l.at ≡ found_at l.self.list l.s

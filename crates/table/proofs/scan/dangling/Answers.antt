@@ -8,10 +8,10 @@ use Rattle.table.specs.Notes.{loose_from}
 use Rattle.table.proofs.Scans.{loose_refused, loose_row, loose_end, row_fits}
 use Rattle.table.proofs.scan.dangling.Goals as goal
 
-pub returns-in-default : goal.returns-in-default
-returns-in-default c =
-    sym (loose_refused c.args.starts.now c.args.text.now c.loop-at.at c.in-default.field-0 c.loop-at-test.true
-    (ap read_row (sym (take_rest c.args.text.now c.loop-at.at)) ∙ sym c.in-default.ensures.row))
+pub returns-in_default : goal.returns-in_default
+returns-in_default c =
+    sym (loose_refused c.args.starts.now c.args.text.now c.loop-at.at c.in_default.field-0 c.loop-at-test.true
+    (ap read_row (sym (take_rest c.args.text.now c.loop-at.at)) ∙ sym c.in_default.ensures.row))
     ∙ c.loop-at.invariant.0
 
 pub returns-then-names_unnoted : goal.returns-then-names_unnoted

@@ -7,17 +7,17 @@ use Rattle.layout.specs.Order.{step}
 use Rattle.table.proofs.Scans.{refused_row, refused_step, taken_row}
 use Rattle.table.proofs.scan.take_row.Goals as goal
 
-pub returns-in-default : goal.returns-in-default
-returns-in-default c =
-    refused_row c.args.text.now c.args.at c.args.state.now c.args.starts.now c.in-default.field-0 c.requires
-    (ap read_row (sym (take_rest c.args.text.now c.args.at)) ∙ sym c.in-default.ensures.row)
+pub returns-in_default : goal.returns-in_default
+returns-in_default c =
+    refused_row c.args.text.now c.args.at c.args.state.now c.args.starts.now c.in_default.field-0 c.requires
+    (ap read_row (sym (take_rest c.args.text.now c.args.at)) ∙ sym c.in_default.ensures.row)
 
-pub returns-in-default-advance : goal.returns-in-default-advance
-returns-in-default-advance c =
+pub returns-in_default-advance : goal.returns-in_default-advance
+returns-in_default-advance c =
     let read : read_row (drop c.args.at c.args.text.now) ≡ Ok (told c.in-Ok.row) =
     ap read_row (sym (take_rest c.args.text.now c.args.at)) ∙ sym c.in-Ok.ensures.row in
     refused_step c.args.text.now c.args.at c.args.state.now c.args.starts.now (told c.in-Ok.row) read
-    (sym c.advance.ensures ∙ c.in-default-advance.is)
+    (sym c.advance.ensures ∙ c.in_default-advance.is)
 
 pub returns : goal.returns
 returns c =

@@ -18,11 +18,11 @@ use Rattle.object.specs.Reader.{after}
 use Rattle.object.proofs.Holding.{kept_from, read_held}
 use Rattle.object.proofs.held.Object.take.Goals as goal
 
-pub returns-in-err-notes : goal.returns-in-err-notes
-returns-in-err-notes c =
+pub returns-in_err-notes : goal.returns-in_err-notes
+returns-in_err-notes c =
     let b = vec_items c.args.file
-    in let f = c.in-err-notes.field-0.0
-    in let w = subst (λ (x : List ℕ). Ends x (checks x) (Err f)) c.as_slice.ensures.value c.in-err-notes.ensures
+    in let f = c.in_err-notes.field-0.0
+    in let w = subst (λ (x : List ℕ). Ends x (checks x) (Err f)) c.as_slice.ensures.value c.in_err-notes.ensures
     in let p = err_from_is_err_and c.from_residual.result c.from_residual.ensures.1
     in record {
       verdict = p.1 ∙ (ap Err p.2 ∙ answer_some (first_fault (checks b)) f tt w);
@@ -33,8 +33,8 @@ returns-in-err-notes c =
 pub invariant-of-self : goal.invariant-of-self
 invariant-of-self c =
     let b = vec_items c.args.file
-    in let x = c.in-ok-notes.notes
-    in let w = subst (λ (y : List ℕ). Ends y (checks y) (Ok x)) c.as_slice.ensures.value c.in-ok-notes.ensures
+    in let x = c.in_ok-notes.notes
+    in let w = subst (λ (y : List ℕ). Ends y (checks y) (Ok x)) c.as_slice.ensures.value c.in_ok-notes.ensures
     in let k = kept_from b x w.1
     in (
       read_held b w.0,
@@ -44,8 +44,8 @@ invariant-of-self c =
 pub returns : goal.returns
 returns c =
     let b = vec_items c.args.file
-    in let x = c.in-ok-notes.notes
-    in let w = subst (λ (y : List ℕ). Ends y (checks y) (Ok x)) c.as_slice.ensures.value c.in-ok-notes.ensures
+    in let x = c.in_ok-notes.notes
+    in let w = subst (λ (y : List ℕ). Ends y (checks y) (Ok x)) c.as_slice.ensures.value c.in_ok-notes.ensures
     in record {
       verdict = answer_none (first_fault (checks b)) tt w.0;
       first = verdict_law (checks b);

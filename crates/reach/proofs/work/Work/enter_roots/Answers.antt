@@ -3,7 +3,7 @@ use Rattle.model.specs.Graph.{root_of}
 use Rattle.unfolding.specs.Reach.{root}
 use Rattle.reach.proofs.Entering.{enter_step, pass_step, taken_all, roots_past, reached_small}
 use Rattle.reach.proofs.work.Work.enter_roots.Goals as goal
-use Rattle.reach.proofs.work.Work.enter_roots.Goals.{in-Some, in-default}
+use Rattle.reach.proofs.work.Work.enter_roots.Goals.{in-Some, in_default}
 
 pub enter-requires : goal.enter-requires
 enter-requires g c =
@@ -27,10 +27,10 @@ loop-j-preserved g c =
           enter_step x v (root_of x) w₀ c.match-root.self j w.in-Some.s c.loop-j.invariant.0 c.loop-j.invariant.1 is (root j is)
           (w.self-is ∙ w.enter.ensures) in
           (h.sound, h.taken)
-      | in-default w ↦
+      | in_default w ↦
           let h =
           pass_step x (root_of x) w₀ c.match-root.self j c.loop-j.invariant.0 c.loop-j.invariant.1
-          (sym c.root.ensures ∙ w.in-default.is)
+          (sym c.root.ensures ∙ w.in_default.is)
           w.self-is in
           (h.sound, h.taken)
     ]

@@ -2,7 +2,7 @@ use Rattle.std.proofs.Common.{sym, ap, ◌∙◌, arith}
 use Rattle.reach.specs.Work.{aims, aim_of, told_count}
 use Rattle.reach.proofs.Entering.{enter_step, pass_step, grown_on, taken_all, aims_past, aim_reached, reached_small}
 use Rattle.reach.proofs.work.Work.follow.Goals as goal
-use Rattle.reach.proofs.work.Work.follow.Goals.{in-Some, in-default}
+use Rattle.reach.proofs.work.Work.follow.Goals.{in-Some, in_default}
 
 pub enter-requires : goal.enter-requires
 enter-requires g c =
@@ -29,10 +29,10 @@ loop-j-preserved g c =
           (aim_reached x c.args.s j w.in-Some.t c.requires.reached is)
           (w.self-is ∙ w.enter.ensures) in
           (h.sound, grown_on c.args.self.now w₀ c.match-aim.self c.loop-j.invariant.1 h.grown, h.taken)
-      | in-default w ↦
+      | in_default w ↦
           let h =
           pass_step x (aims x c.args.s) w₀ c.match-aim.self j c.loop-j.invariant.0 c.loop-j.invariant.2
-          (asked ∙ w.in-default.is)
+          (asked ∙ w.in_default.is)
           w.self-is in
           (h.sound, grown_on c.args.self.now w₀ c.match-aim.self c.loop-j.invariant.1 h.grown, h.taken)
     ]

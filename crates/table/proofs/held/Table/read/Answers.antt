@@ -7,11 +7,11 @@ use Rattle.table.specs.Meaning.{text_held, text_after}
 use Rattle.table.specs.Outcomes.{examined_ok, examined_err, held_read}
 use Rattle.table.proofs.held.Table.read.Goals as goal
 
-pub returns-in-err-starts : goal.returns-in-err-starts
-returns-in-err-starts c =
+pub returns-in_err-starts : goal.returns-in_err-starts
+returns-in_err-starts c =
     let t : List ℕ = vec_items c.args.text in
     let p = err_from_is_err_and c.from_residual.result c.from_residual.ensures.1 in
-    let e = examined_err t _ (sym (c.examine.ensures ∙ ap examined c.as_slice.ensures.value) ∙ c.in-err-starts.was) in
+    let e = examined_err t _ (sym (c.examine.ensures ∙ ap examined c.as_slice.ensures.value) ∙ c.in_err-starts.was) in
     record {
       answer = p.1 ∙ ap Err p.2 ∙ ap outcome (sym e);
       holds = ap (λ (o : Option Fault). text_after o t (text_held c.args.self.now)) (sym e);
@@ -21,13 +21,13 @@ returns-in-err-starts c =
 pub invariant-of-self : goal.invariant-of-self
 invariant-of-self c =
     let t : List ℕ = vec_items c.args.text in
-    let e = examined_ok t c.in-ok-starts.starts (sym (c.examine.ensures ∙ ap examined c.as_slice.ensures.value) ∙ c.in-ok-starts.was) in
-    (held_read t c.in-ok-starts.starts e.0 e.1, tt)
+    let e = examined_ok t c.in_ok-starts.starts (sym (c.examine.ensures ∙ ap examined c.as_slice.ensures.value) ∙ c.in_ok-starts.was) in
+    (held_read t c.in_ok-starts.starts e.0 e.1, tt)
 
 pub returns : goal.returns
 returns c =
     let t : List ℕ = vec_items c.args.text in
-    let e = examined_ok t c.in-ok-starts.starts (sym (c.examine.ensures ∙ ap examined c.as_slice.ensures.value) ∙ c.in-ok-starts.was) in
+    let e = examined_ok t c.in_ok-starts.starts (sym (c.examine.ensures ∙ ap examined c.as_slice.ensures.value) ∙ c.in_ok-starts.was) in
     record {
       answer = ap outcome (sym e.0);
       holds = ap (λ (o : Option Fault). text_after o t (text_held c.args.self.now)) (sym e.0);
