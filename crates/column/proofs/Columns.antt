@@ -1,7 +1,7 @@
 -- Numbers in columns: what is written is read again, and nothing else is read.
 use Rattle.std.proofs.Common.{◌≡◌, ℕ, zero, suc, ◌+◌, ◌-◌, ◌*◌, ◌^◌, ◌<◌, ◌≤◌, Bool, true, false, cond, ◌&&◌, eqb, leb, List, [], ◌∷◌, ◌++◌, length, get_or, take, drop, replicate, ℤ, pos, negsuc, Some, None, decimal, Option, sym, refl, ap, ◌∙◌, subst, inl, inr, ⊎_elim, mul-zero, mul-suc, arith, rules}
 use lib.Signed.{mag}
-use Rattle.std.specs.List.{AllByRecursion as All}
+use Rattle.std.specs.List.{AllByRecursion}
 use Rattle.std.specs.Fmt.{signed_decimal}
 use Rattle.std.proofs.lemmas.Fmt.{decimal_digit, decimal_nonempty, digits_decimal, digits_value-decimal, decimal-digits_value, first_decimal, length-decimal-le, length_signed_le}
 use Rattle.std.proofs.ByRecursion.{All-append}
@@ -116,7 +116,7 @@ length_column w z h =
     )
 
 pub length_columns : (w : ℕ) (zs : List ℤ)
-    → All (λ z. length (signed_decimal z) ≤ w) zs
+    → AllByRecursion (λ z. length (signed_decimal z) ≤ w) zs
     → length (columns w zs) ≡ w * length zs
 length_columns w [] h = sym (mul-zero w)
 length_columns w (z ∷ zs) h =
@@ -192,29 +192,29 @@ column_only (c ∷ cs) z short h =
 
 -- no byte of a column ends a row
 
-all_replicate : (P : ℕ → Type 0) (k b : ℕ) → P b → All P (replicate k b)
+all_replicate : (P : ℕ → Type 0) (k b : ℕ) → P b → AllByRecursion P (replicate k b)
 all_replicate P zero b h = tt
 all_replicate P (suc k) b h = (h, all_replicate P k b h)
 
-digits_plain : (ds : List ℕ) → all_digits ds ≡ true → All (λ b. 10 < b) ds
+digits_plain : (ds : List ℕ) → all_digits ds ≡ true → AllByRecursion (λ b. 10 < b) ds
 digits_plain [] h = tt
 digits_plain (d ∷ ds) h =
     let p = and_parts (is_digit d) (all_digits ds) h in
     let q = and_parts (leb 48 d) (leb d 57) p.0 in
     (omega (arith, leb-true 48 d q.0), digits_plain ds p.1)
 
-signed_plain : (z : ℤ) → mag z < 2 ^ 63 → All (λ b. 10 < b) (signed_decimal z)
+signed_plain : (z : ℤ) → mag z < 2 ^ 63 → AllByRecursion (λ b. 10 < b) (signed_decimal z)
 signed_plain (pos n) h = digits_plain (decimal n) (digits_decimal own n (omega arith))
 signed_plain (negsuc n) h =
     (omega arith, digits_plain (decimal (suc n)) (digits_decimal own (suc n) (omega arith)))
 
-pub column_plain : (w : ℕ) (z : ℤ) → mag z < 2 ^ 63 → All (λ b. 10 < b) (column w z)
+pub column_plain : (w : ℕ) (z : ℤ) → mag z < 2 ^ 63 → AllByRecursion (λ b. 10 < b) (column w z)
 column_plain w z h =
     All-append (λ b. 10 < b) (replicate (w - length (signed_decimal z)) 32) (signed_decimal z)
     (all_replicate (λ b. 10 < b) (w - length (signed_decimal z)) 32 (omega arith))
     (signed_plain z h)
 
-pub columns_plain : (w : ℕ) (zs : List ℤ) → All (λ z. mag z < 2 ^ 63) zs → All (λ b. 10 < b) (columns w zs)
+pub columns_plain : (w : ℕ) (zs : List ℤ) → AllByRecursion (λ z. mag z < 2 ^ 63) zs → AllByRecursion (λ b. 10 < b) (columns w zs)
 columns_plain w [] h = tt
 columns_plain w (z ∷ zs) h =
     All-append (λ b. 10 < b) (column w z) (columns w zs) (column_plain w z h.0) (columns_plain w zs h.1)
@@ -222,7 +222,7 @@ columns_plain w (z ∷ zs) h =
 -- the columns stand side by side
 pub columns_at : (w k : ℕ) (zs : List ℤ) (rest : List ℕ)
     → k < length zs
-    → All (λ z. length (signed_decimal z) ≤ w) zs
+    → AllByRecursion (λ z. length (signed_decimal z) ≤ w) zs
     → take w (drop (w * k) (columns w zs ++ rest)) ≡ column w (get_or zs k (pos 0))
 columns_at w k [] rest h fit = absurd (omega arith)
 columns_at w zero (z ∷ zs) rest h fit =

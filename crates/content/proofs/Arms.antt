@@ -1,6 +1,6 @@
 -- Relocations, told with their targets: they are the same but for the sections pointed at, and these are related one by one.
 use Rattle.std.proofs.Common.{◌≡◌, ℕ, true, List, [], ◌∷◌, map, refl, ap, arith}
-use Rattle.std.specs.List.{AllByRecursion as All}
+use Rattle.std.specs.List.{AllByRecursion}
 use Rattle.std.proofs.lemmas.Bool.{eqb-true, eq-eqb, and_parts, and_from}
 use Rattle.model.specs.declared.Target.{Target}
 use Rattle.model.specs.declared.Target.TheVariants.{Section, Outside}
@@ -30,8 +30,8 @@ module _ (P : ℕ → Type 0) (cs : List ℕ) (R : ℕ → ℕ → Type 0) where
   pub arms_join :
       ((a b : ℕ) → P a → P b → class_in cs a ≡ class_in cs b → R a b) →
       (n m : ℕ) (rs qs : List Relocation) →
-      All (LawfulRelocation P n) rs →
-      All (LawfulRelocation P m) qs →
+      AllByRecursion (LawfulRelocation P n) rs →
+      AllByRecursion (LawfulRelocation P m) qs →
       map bare rs ≡ map bare qs →
       same_list (same_aim cs) rs qs ≡ true →
       ArmsRel R (map arm rs) (map arm qs)
@@ -62,8 +62,8 @@ module _ (P : ℕ → Type 0) (cs : List ℕ) (R : ℕ → ℕ → Type 0) where
   pub arms_split :
       ((a b : ℕ) → P a → P b → R a b → class_in cs a ≡ class_in cs b) →
       (n m : ℕ) (rs qs : List Relocation) →
-      All (LawfulRelocation P n) rs →
-      All (LawfulRelocation P m) qs →
+      AllByRecursion (LawfulRelocation P n) rs →
+      AllByRecursion (LawfulRelocation P m) qs →
       ArmsRel R (map arm rs) (map arm qs) →
       (map bare rs ≡ map bare qs) × (same_list (same_aim cs) rs qs ≡ true)
   arms_split split n m [] [] h k e = (refl, refl)

@@ -1,6 +1,6 @@
 -- Every table is accepted: its rows come in the order that the reader asks for.
 use Rattle.std.proofs.Common.{◌≡◌, ℕ, zero, suc, ◌+◌, ◌-◌, ◌<◌, ◌≤◌, min, Bool, true, false, cond, ◌&&◌, eqb, ltb, leb, List, [], ◌∷◌, ◌++◌, length, get_or, take, drop, Some, None, Option, sym, refl, ap, ◌∙◌, subst, add-zero, add-suc, arith}
-use Rattle.std.specs.List.{AllByRecursion as All}
+use Rattle.std.specs.List.{AllByRecursion}
 use Rattle.std.proofs.lemmas.List.{length-take, length-drop}
 use Rattle.std.proofs.ByRecursion.{All-from_get_or, All-weaker}
 use Rattle.std.proofs.lemmas.Bool.{eq-eqb, lt-ltb, le-leb, and_from, cond-true}
@@ -38,7 +38,7 @@ run_bytes (suc k) (b ∷ bs) rest n x s r z q h =
     ∙ ap (λ (m : ℕ). run more (Open (due n x s r z m q))) (bytes_left xs)
     ∙ run_bytes k (drop 16 xs) rest n x s r z q short
 
-pub run_relocations : (rs : List Relocation) (rest : List Entry) (n x s r z : ℕ) → All (λ y. y.offset < z) rs
+pub run_relocations : (rs : List Relocation) (rest : List Entry) (n x s r z : ℕ) → AllByRecursion (λ y. y.offset < z) rs
     → run (with_relocations rs rest) (Open (due n x s r z 0 (length rs))) ≡ run rest (Open (due n x s r z 0 0))
 run_relocations [] rest n x s r z h = refl
 run_relocations (y ∷ rs) rest n x s r z h =
@@ -58,9 +58,9 @@ run_roots (t ∷ ts) n x s z =
 -- the offsets of a section's relocations are below its size
 abbrev Offsets : Option Body → Type 0
 Offsets None = Unit {0}
-Offsets (Some b) = All (λ y. y.offset < length b.bytes) b.relocations
+Offsets (Some b) = AllByRecursion (λ y. y.offset < length b.bytes) b.relocations
 
-run_sections : (bs : List (Option Body)) (ts : List ℕ) (s n x seen z total : ℕ) → seen ≤ x → x ≤ s → s + length bs ≤ n → All Offsets bs → seen + present_count bs ≡ total
+run_sections : (bs : List (Option Body)) (ts : List ℕ) (s n x seen z total : ℕ) → seen ≤ x → x ≤ s → s + length bs ≤ n → AllByRecursion Offsets bs → seen + present_count bs ≡ total
     → run (with_sections s bs (with_roots ts (end total ∷ []))) (Open (due n x seen (length ts) z 0 0)) ≡ true
 run_sections [] ts s n x seen z total behind low fits h e =
     let same : seen ≡ total = omega arith in

@@ -1,6 +1,6 @@
 -- A graph keeps all laws exactly when its rows do, and none of them names an absent section.
 use Rattle.std.proofs.Common.{◌≡◌, ℕ, zero, suc, ◌+◌, ◌^◌, ◌<◌, ◌≤◌, Bool, true, false, cond, not, ◌⊎◌, List, [], ◌∷◌, ◌++◌, length, get_or, take, drop, is_some, Some, None, Option, sym, refl, ap, ◌∙◌, subst, inl, inr, arith}
-use Rattle.std.specs.List.{AllByRecursion as All}
+use Rattle.std.specs.List.{AllByRecursion}
 use Rattle.std.proofs.lemmas.List.{get_or_past}
 use Rattle.std.proofs.ByRecursion.{All-from_get_or, All-get_or, All-weaker}
 use Rattle.std.proofs.lemmas.Bool.{cases_lt}
@@ -45,25 +45,25 @@ aimed_free g (Section t) few h = (omega (arith, present_below g.sections t h), p
 aimed_free g (Outside e) few h = (h, refl)
 
 -- the rows of a section, taken apart
-aims_bytes : (g : Graph) (k : ℕ) (bs : List ℕ) (rest : List Entry) → All (Aims g) rest → All (Aims g) (with_bytes k bs rest)
+aims_bytes : (g : Graph) (k : ℕ) (bs : List ℕ) (rest : List Entry) → AllByRecursion (Aims g) rest → AllByRecursion (Aims g) (with_bytes k bs rest)
 aims_bytes g zero bs rest h = h
 aims_bytes g (suc k) [] rest h = h
 aims_bytes g (suc k) (b ∷ bs) rest h = (refl, aims_bytes g k (drop 16 (b ∷ bs)) rest h)
 
-aims_past_bytes : (g : Graph) (k : ℕ) (bs : List ℕ) (rest : List Entry) → All (Aims g) (with_bytes k bs rest) → All (Aims g) rest
+aims_past_bytes : (g : Graph) (k : ℕ) (bs : List ℕ) (rest : List Entry) → AllByRecursion (Aims g) (with_bytes k bs rest) → AllByRecursion (Aims g) rest
 aims_past_bytes g zero bs rest h = h
 aims_past_bytes g (suc k) [] rest h = h
 aims_past_bytes g (suc k) (b ∷ bs) rest h = aims_past_bytes g k (drop 16 (b ∷ bs)) rest h.1
 
 -- each relocation of the list aims at a present section
 abbrev AimedAll : Graph → List Relocation → Type 0
-AimedAll g rs = All (λ r. absent_in g (aimed r.target) ≡ false) rs
+AimedAll g rs = AllByRecursion (λ r. absent_in g (aimed r.target) ≡ false) rs
 
-aims_relocations : (g : Graph) (rs : List Relocation) (rest : List Entry) → AimedAll g rs → All (Aims g) rest → All (Aims g) (with_relocations rs rest)
+aims_relocations : (g : Graph) (rs : List Relocation) (rest : List Entry) → AimedAll g rs → AllByRecursion (Aims g) rest → AllByRecursion (Aims g) (with_relocations rs rest)
 aims_relocations g [] rest a h = h
 aims_relocations g (r ∷ rs) rest a h = (a.0, aims_relocations g rs rest a.1 h)
 
-aims_past_relocations : (g : Graph) (rs : List Relocation) (rest : List Entry) → All (Aims g) (with_relocations rs rest) → AimedAll g rs × All (Aims g) rest
+aims_past_relocations : (g : Graph) (rs : List Relocation) (rest : List Entry) → AllByRecursion (Aims g) (with_relocations rs rest) → AimedAll g rs × AllByRecursion (Aims g) rest
 aims_past_relocations g [] rest h = (tt, h)
 aims_past_relocations g (r ∷ rs) rest h = let p = aims_past_relocations g rs rest h.1 in ((h.0, p.0), p.1)
 
@@ -71,13 +71,13 @@ abbrev AimedBody : Graph → Option Body → Type 0
 AimedBody g None = Unit {0}
 AimedBody g (Some b) = AimedAll g b.relocations
 
-aims_sections : (g : Graph) (s : ℕ) (bs : List (Option Body)) (rest : List Entry) → All (AimedBody g) bs → All (Aims g) rest → All (Aims g) (with_sections s bs rest)
+aims_sections : (g : Graph) (s : ℕ) (bs : List (Option Body)) (rest : List Entry) → AllByRecursion (AimedBody g) bs → AllByRecursion (Aims g) rest → AllByRecursion (Aims g) (with_sections s bs rest)
 aims_sections g s [] rest a h = h
 aims_sections g s (None ∷ bs) rest a h = aims_sections g (suc s) bs rest a.1 h
 aims_sections g s (Some b ∷ bs) rest a h =
     (refl, aims_bytes g _ b.bytes _ (aims_relocations g b.relocations _ a.0 (aims_sections g (suc s) bs rest a.1 h)))
 
-aims_past_sections : (g : Graph) (s : ℕ) (bs : List (Option Body)) (rest : List Entry) → All (Aims g) (with_sections s bs rest) → All (AimedBody g) bs × All (Aims g) rest
+aims_past_sections : (g : Graph) (s : ℕ) (bs : List (Option Body)) (rest : List Entry) → AllByRecursion (Aims g) (with_sections s bs rest) → AllByRecursion (AimedBody g) bs × AllByRecursion (Aims g) rest
 aims_past_sections g s [] rest h = (tt, h)
 aims_past_sections g s (None ∷ bs) rest h = let p = aims_past_sections g (suc s) bs rest h in ((tt, p.0), p.1)
 aims_past_sections g s (Some b ∷ bs) rest h =
@@ -85,16 +85,16 @@ aims_past_sections g s (Some b ∷ bs) rest h =
     let p = aims_past_sections g (suc s) bs rest q.1 in
     ((q.0, p.0), p.1)
 
-aims_roots : (g : Graph) (ts : List ℕ) (k : ℕ) → All (Present g) ts → All (Aims g) (with_roots ts (end k ∷ []))
+aims_roots : (g : Graph) (ts : List ℕ) (k : ℕ) → AllByRecursion (Present g) ts → AllByRecursion (Aims g) (with_roots ts (end k ∷ []))
 aims_roots g [] k h = (refl, tt)
 aims_roots g (t ∷ ts) k h = (present_not (section_of g t) h.0, aims_roots g ts k h.1)
 
-aims_past_roots : (g : Graph) (ts : List ℕ) (k : ℕ) → All (Aims g) (with_roots ts (end k ∷ [])) → All (Present g) ts
+aims_past_roots : (g : Graph) (ts : List ℕ) (k : ℕ) → AllByRecursion (Aims g) (with_roots ts (end k ∷ [])) → AllByRecursion (Present g) ts
 aims_past_roots g [] k h = tt
 aims_past_roots g (t ∷ ts) k h = (present_yes (section_of g t) h.0, aims_past_roots g ts k h.1)
 
 -- a body's laws, with present sections for free ones and the other way round
-relocations_present : (g : Graph) (size : ℕ) (rs : List Relocation) → AimedAll g rs → All (LawfulRelocation Free size) rs → All (LawfulRelocation (Present g) size) rs
+relocations_present : (g : Graph) (size : ℕ) (rs : List Relocation) → AimedAll g rs → AllByRecursion (LawfulRelocation Free size) rs → AllByRecursion (LawfulRelocation (Present g) size) rs
 relocations_present g size [] a l = tt
 relocations_present g size (r ∷ rs) a l = (
   record {
@@ -107,8 +107,8 @@ relocations_present g size (r ∷ rs) a l = (
   relocations_present g size rs a.1 l.1,
 )
 
-relocations_free : (g : Graph) (size : ℕ) (rs : List Relocation) → length g.sections ≤ 1024 → All (LawfulRelocation (Present g) size) rs
-    → All (LawfulRelocation Free size) rs × AimedAll g rs
+relocations_free : (g : Graph) (size : ℕ) (rs : List Relocation) → length g.sections ≤ 1024 → AllByRecursion (LawfulRelocation (Present g) size) rs
+    → AllByRecursion (LawfulRelocation Free size) rs × AimedAll g rs
 relocations_free g size [] few l = (tt, tt)
 relocations_free g size (r ∷ rs) few l =
     let p = relocations_free g size rs few l.1 in
@@ -138,13 +138,13 @@ body_free g b few l =
     }
 
 -- the body that stands at a number is aimed, where all are
-at_number : (g : Graph) (bs : List (Option Body)) (s : ℕ) (b : Body) → get_or bs s None ≡ Some b → All (AimedBody g) bs → AimedAll g b.relocations
+at_number : (g : Graph) (bs : List (Option Body)) (s : ℕ) (b : Body) → get_or bs s None ≡ Some b → AllByRecursion (AimedBody g) bs → AimedAll g b.relocations
 at_number g bs s b e a =
     let here : is_some (get_or bs s None) ≡ true = ap is_some e in
     let below : s < length bs = present_below bs s here in
     subst (AimedBody g) e (All-get_or (AimedBody g) bs s None below a)
 
-pub valid_from_aims : (g : Graph) → Formed g → All (Aims g) (entries g) → Valid g
+pub valid_from_aims : (g : Graph) → Formed g → AllByRecursion (Aims g) (entries g) → Valid g
 valid_from_aims g v h =
     let p = aims_past_sections g 0 g.sections _ h.1 in
     record {
@@ -167,7 +167,7 @@ formed_from_valid g v =
       rooted = All-weaker _ Free (λ t h. let l : t < length g.sections = present_below g.sections t h in let f : length g.sections ≤ 1024 = v.few in omega arith) g.roots v.rooted;
     }
 
-pub aims_from_valid : (g : Graph) → Valid g → All (Aims g) (entries g)
+pub aims_from_valid : (g : Graph) → Valid g → AllByRecursion (Aims g) (entries g)
 aims_from_valid g v = (
   refl,
   aims_sections g 0 g.sections _

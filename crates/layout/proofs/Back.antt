@@ -1,6 +1,6 @@
 -- The rows of a graph tell that graph.
 use Rattle.std.proofs.Common.{◌≡◌, ℕ, zero, suc, ◌+◌, ◌<◌, ◌≤◌, List, [], ◌∷◌, ◌++◌, length, take, drop, Some, None, Option, sym, refl, ap, ◌∙◌, subst, arith}
-use Rattle.std.specs.List.{AllByRecursion as All}
+use Rattle.std.specs.List.{AllByRecursion}
 use Rattle.std.proofs.lemmas.List.{append_assoc, append-nil, length-drop, take-append-drop}
 use Rattle.std.proofs.ByRecursion.{All-weaker}
 use Rattle.std.proofs.lemmas.Bool.{eq-eqb, ne_eqb, cond-true, cond-false}
@@ -85,12 +85,12 @@ parts_roots : (ts : List ℕ) (k : ℕ) → parts (with_roots ts (end k ∷ []))
 parts_roots [] k = refl
 parts_roots (t ∷ ts) k = ap (told_by (root t)) (parts_roots ts k)
 
-numbered_low : (s : ℕ) (bs : List (Option Body)) → All (λ x. s ≤ x.0) (numbered s bs)
+numbered_low : (s : ℕ) (bs : List (Option Body)) → AllByRecursion (λ x. s ≤ x.0) (numbered s bs)
 numbered_low s [] = tt
 numbered_low s (None ∷ bs) = All-weaker _ (λ x. s ≤ x.0) (λ x h. omega arith) _ (numbered_low (suc s) bs)
 numbered_low s (Some b ∷ bs) = (omega arith, All-weaker _ (λ x. s ≤ x.0) (λ x h. omega arith) _ (numbered_low (suc s) bs))
 
-placed_above : (s n : ℕ) (xs : List (ℕ × Body)) → All (λ x. suc s ≤ x.0) xs → placed s (suc n) xs ≡ None ∷ placed (suc s) n xs
+placed_above : (s n : ℕ) (xs : List (ℕ × Body)) → AllByRecursion (λ x. suc s ≤ x.0) xs → placed s (suc n) xs ≡ None ∷ placed (suc s) n xs
 placed_above s n [] h = refl
 placed_above s n (x ∷ xs) h =
     let apart : x.0 ≡ s → ⊥ = λ (e : x.0 ≡ s). omega (arith, h.0) in cond-false _ _ _ (ne_eqb x.0 s apart)

@@ -1,6 +1,6 @@
 -- Only tables are accepted: rows that come in order are those of the graph that they tell.
 use Rattle.std.proofs.Common.{◌≡◌, ℕ, zero, suc, ◌+◌, ◌-◌, ◌^◌, ◌<◌, ◌≤◌, min, Bool, true, false, cond, ◌&&◌, eqb, ltb, leb, ◌⊎◌, List, [], ◌∷◌, ◌++◌, length, get_or, take, drop, Some, None, Option, sym, refl, ap, ◌∙◌, subst, inl, inr, arith}
-use Rattle.std.specs.List.{AllByRecursion as All}
+use Rattle.std.specs.List.{AllByRecursion}
 use Rattle.std.proofs.lemmas.List.{length-take, length-drop, length-append, append-nil, take_at, take_all, drop_at, drop_all, nil_from_length}
 use Rattle.std.proofs.ByRecursion.{All-append}
 use Rattle.std.proofs.lemmas.Bool.{eqb-true, ltb-true, leb-true, and_parts, cases_lt}
@@ -24,13 +24,13 @@ weaker low high r h l =
 -- rows that leave nothing due, from what is due before them: they are the rows of what they tell
 pub record Rest (d : Due) (es : List Entry) : Type 0 where
   pub bytes : length (parts es).bytes ≡ d.bytes
-  pub values : All (λ b. b < 2 ^ 8) (parts es).bytes
+  pub values : AllByRecursion (λ b. b < 2 ^ 8) (parts es).bytes
   pub relocations : length (parts es).relocations ≡ d.relocations
-  pub lawful_relocations : All (LawfulRelocation Free d.size) (parts es).relocations
+  pub lawful_relocations : AllByRecursion (LawfulRelocation Free d.size) (parts es).relocations
   pub ascending : Ascending d.next d.sections (parts es).sections
-  pub lawful : All (λ x. LawfulBody Free x.1) (parts es).sections
+  pub lawful : AllByRecursion (λ x. LawfulBody Free x.1) (parts es).sections
   pub roots : length (parts es).roots ≡ d.roots
-  pub free : All Free (parts es).roots
+  pub free : AllByRecursion Free (parts es).roots
   pub rows : es
       ≡ with_bytes (length (parts es).bytes) (parts es).bytes
       (with_relocations (parts es).relocations
@@ -126,7 +126,7 @@ section_rest s m es d r b t =
           size = subst (λ (k : ℕ). k < 2 ^ 16) (sym t.bytes) r.1.size;
           bytes = t.values;
           few = subst (λ (k : ℕ). k < 2 ^ 16) (sym t.relocations) r.1.relocations;
-          relocations = subst (λ (k : ℕ). All (LawfulRelocation Free k) (parts es).relocations) (sym t.bytes) t.lawful_relocations;
+          relocations = subst (λ (k : ℕ). AllByRecursion (LawfulRelocation Free k) (parts es).relocations) (sym t.bytes) t.lawful_relocations;
         },
         t.lawful,
       );
@@ -219,7 +219,7 @@ end_rest k d b =
       rows = ap (λ (n : ℕ). end n ∷ []) (let same : k ≡ d.seen = eqb-true _ _ last.1 in omega arith);
     }
 
-only_open : (es : List Entry) (d : Due) → All Ranged es → run es (Open d) ≡ true → Rest d es
+only_open : (es : List Entry) (d : Due) → AllByRecursion Ranged es → run es (Open d) ≡ true → Rest d es
 only_open [] d r h = absurd (let z : ◌≡◌ {A = ℕ} 0 1 = cc in omega arith)
 only_open (header n k ∷ es) d r h = absurd (let z : ◌≡◌ {A = ℕ} 0 1 = cc in omega arith)
 only_open (section s m ∷ es) d r h =
@@ -235,7 +235,7 @@ only_open (end k ∷ es) d r h =
     subst (λ (xs : List Entry). Rest d (end k ∷ xs)) (sym (done_ends es t.1)) (end_rest k d t.0)
 
 -- rows that come in order from the start are those of the graph that they tell, which keeps the laws
-pub only : (es : List Entry) → All Ranged es → run es Start ≡ true → (es ≡ entries (graph_in es)) × Formed (graph_in es)
+pub only : (es : List Entry) → AllByRecursion Ranged es → run es Start ≡ true → (es ≡ entries (graph_in es)) × Formed (graph_in es)
 only [] r h = absurd (let z : ◌≡◌ {A = ℕ} 0 1 = cc in omega arith)
 only (section s m ∷ es) r h = absurd (let z : ◌≡◌ {A = ℕ} 0 1 = cc in omega arith)
 only (bytes bs ∷ es) r h = absurd (let z : ◌≡◌ {A = ℕ} 0 1 = cc in omega arith)

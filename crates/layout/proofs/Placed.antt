@@ -1,6 +1,6 @@
 -- Numbered sections, put at their places among absent ones.
 use Rattle.std.proofs.Common.{◌≡◌, ℕ, zero, suc, ◌+◌, ◌<◌, ◌≤◌, Bool, true, false, cond, eqb, ◌⊎◌, List, [], ◌∷◌, ◌++◌, length, get_or, Some, None, Option, sym, refl, ap, ◌∙◌, subst, inl, inr, arith}
-use Rattle.std.specs.List.{AllByRecursion as All}
+use Rattle.std.specs.List.{AllByRecursion}
 use Rattle.std.proofs.lemmas.Bool.{eq-eqb, ne_eqb, cases_eq, cond-true, cond-false}
 use Rattle.model.specs.Graph.{Body}
 use Rattle.row.specs.Entry.{Entry}
@@ -67,7 +67,7 @@ placed_rows s (suc n) (x ∷ xs) rest high e h =
         (later (raised s high xs x h apart))
 
 -- what holds of every numbered section holds of every section that is placed
-pub placed_all : (P : Body → Type 0) (s n : ℕ) (xs : List (ℕ × Body)) → All (λ x. P x.1) xs → (t : ℕ) (b : Body) → get_or (placed s n xs) t None ≡ Some b → P b
+pub placed_all : (P : Body → Type 0) (s n : ℕ) (xs : List (ℕ × Body)) → AllByRecursion (λ x. P x.1) xs → (t : ℕ) (b : Body) → get_or (placed s n xs) t None ≡ Some b → P b
 placed_all P s zero xs h t b e = absurd (let z : ◌≡◌ {A = ℕ} 0 1 = cc in omega arith)
 placed_all P s (suc n) [] h zero b e = absurd (let z : ◌≡◌ {A = ℕ} 0 1 = cc in omega arith)
 placed_all P s (suc n) [] h (suc t) b e = placed_all P (suc s) n [] h t b e

@@ -1,6 +1,6 @@
 -- The numbers of a table's rows are in their ranges.
 use Rattle.std.proofs.Common.{◌≡◌, ℕ, zero, suc, ◌+◌, ◌^◌, ◌<◌, ◌≤◌, List, [], ◌∷◌, ◌++◌, length, get_or, take, drop, Some, None, Option, sym, refl, ap, ◌∙◌, subst, arith}
-use Rattle.std.specs.List.{AllByRecursion as All}
+use Rattle.std.specs.List.{AllByRecursion}
 use Rattle.std.proofs.lemmas.List.{length-take}
 use Rattle.std.proofs.ByRecursion.{All-take, All-drop, All-from_get_or}
 use Rattle.model.specs.declared.Relocation.{Relocation}
@@ -9,7 +9,7 @@ use Rattle.model.specs.Laws.{LawfulRelocation, LawfulBody}
 use Rattle.row.specs.Entry.{Entry, header, section, bytes, relocation, root, end, Ranged}
 use Rattle.layout.specs.Layout.{with_bytes, with_relocations, with_section, with_sections, with_roots, present_count, entries, Formed, Free}
 
-ranged_bytes : (k : ℕ) (bs : List ℕ) (rest : List Entry) → All (λ b. b < 2 ^ 8) bs → All Ranged rest → All Ranged (with_bytes k bs rest)
+ranged_bytes : (k : ℕ) (bs : List ℕ) (rest : List Entry) → AllByRecursion (λ b. b < 2 ^ 8) bs → AllByRecursion Ranged rest → AllByRecursion Ranged (with_bytes k bs rest)
 ranged_bytes zero bs rest h r = r
 ranged_bytes (suc k) [] rest h r = r
 ranged_bytes (suc k) (b ∷ bs) rest h r =
@@ -18,7 +18,7 @@ ranged_bytes (suc k) (b ∷ bs) rest h r =
     let few : length (take 16 xs) ≤ 16 = simp length-take (omega arith) in
     ((some, few, All-take _ 16 xs h), ranged_bytes k (drop 16 xs) rest (All-drop _ 16 xs h) r)
 
-ranged_relocations : (rs : List Relocation) (size : ℕ) (rest : List Entry) → size < 2 ^ 16 → All (LawfulRelocation Free size) rs → All Ranged rest → All Ranged (with_relocations rs rest)
+ranged_relocations : (rs : List Relocation) (size : ℕ) (rest : List Entry) → size < 2 ^ 16 → AllByRecursion (LawfulRelocation Free size) rs → AllByRecursion Ranged rest → AllByRecursion Ranged (with_relocations rs rest)
 ranged_relocations [] size rest few h r = r
 ranged_relocations (x ∷ rs) size rest few h r = (
   record { offset = omega (arith, h.0.offset); kind = h.0.kind; aimed = h.0.aimed; low = h.0.low; high = h.0.high },
@@ -29,7 +29,7 @@ abbrev Lawful : Option Body → Type 0
 Lawful None = Unit {0}
 Lawful (Some b) = LawfulBody Free b
 
-ranged_sections : (s : ℕ) (bs : List (Option Body)) (rest : List Entry) → s + length bs ≤ 1024 → All Lawful bs → All Ranged rest → All Ranged (with_sections s bs rest)
+ranged_sections : (s : ℕ) (bs : List (Option Body)) (rest : List Entry) → s + length bs ≤ 1024 → AllByRecursion Lawful bs → AllByRecursion Ranged rest → AllByRecursion Ranged (with_sections s bs rest)
 ranged_sections s [] rest few h r = r
 ranged_sections s (None ∷ bs) rest few h r = ranged_sections (suc s) bs rest (omega arith) h.1 r
 ranged_sections s (Some b ∷ bs) rest few h r = (
@@ -38,7 +38,7 @@ ranged_sections s (Some b ∷ bs) rest few h r = (
       (ranged_relocations b.relocations (length b.bytes) _ h.0.size h.0.relocations (ranged_sections (suc s) bs rest (omega arith) h.1 r)),
 )
 
-ranged_roots : (ts : List ℕ) (rest : List Entry) → All Free ts → All Ranged rest → All Ranged (with_roots ts rest)
+ranged_roots : (ts : List ℕ) (rest : List Entry) → AllByRecursion Free ts → AllByRecursion Ranged rest → AllByRecursion Ranged (with_roots ts rest)
 ranged_roots [] rest h r = r
 ranged_roots (t ∷ ts) rest h r = (h.0, ranged_roots ts rest h.1 r)
 
@@ -51,7 +51,7 @@ lawful_of : (o : Option Body) → ((b : Body) → o ≡ Some b → LawfulBody Fr
 lawful_of None h = tt
 lawful_of (Some b) h = h b refl
 
-pub ranged_entries : (g : Graph) → Formed g → All Ranged (entries g)
+pub ranged_entries : (g : Graph) → Formed g → AllByRecursion Ranged (entries g)
 ranged_entries g v =
     let few : present_count g.sections ≤ 1024 = omega (arith, count_below g.sections, v.few) in (
       (v.few, v.few_roots),

@@ -1,7 +1,7 @@
 -- Texts and their rows: what is accepted, what is read, and where a text is refused.
 use Rattle.std.proofs.Common.{◌≡◌, ℕ, zero, suc, ◌+◌, ◌<◌, ◌≤◌, Bool, true, false, cond, List, [], ◌∷◌, ◌++◌, map, length, get_or, take, drop, Some, None, Ok, Err, Option, Result, sym, refl, ap, ◌∙◌, subst, add-zero, zero-add, arith}
 use Rattle.std.specs.Option.{option_map}
-use Rattle.std.specs.List.{flat_map, AllByRecursion as All}
+use Rattle.std.specs.List.{flat_map, AllByRecursion}
 use Rattle.std.proofs.lemmas.List.{append-nil, length-append}
 use Rattle.fault.specs.declared.Fault.{Fault}
 use Rattle.column.specs.Columns.{columns}
@@ -42,16 +42,16 @@ line_exact l e o h =
 
 -- the rows of some entries
 
-pub lines_text : (es : List Entry) → All Ranged es → lines (flat_map render es) ≡ map render es
+pub lines_text : (es : List Entry) → AllByRecursion Ranged es → lines (flat_map render es) ≡ map render es
 lines_text [] r = refl
 lines_text (e ∷ es) r = lines_render e r.0 (flat_map render es) ∙ ap (λ (ls : List (List ℕ)). render e ∷ ls) (lines_text es r.1)
 
-entries_back : (es : List Entry) → All Ranged es → entries_in (map render es) ≡ es
+entries_back : (es : List Entry) → AllByRecursion Ranged es → entries_in (map render es) ≡ es
 entries_back [] r = refl
 entries_back (e ∷ es) r =
     ap (λ (x : Result Entry Cause). kept x (entries_in (map render es))) (row_itself e r.0) ∙ ap (λ (xs : List Entry). e ∷ xs) (entries_back es r.1)
 
-rows_taken : (es : List Entry) (q : State) → All Ranged es → run es q ≡ true → verdict step_line is_done (map render es) q ≡ None
+rows_taken : (es : List Entry) (q : State) → AllByRecursion Ranged es → run es q ≡ true → verdict step_line is_done (map render es) q ≡ None
 rows_taken [] q r h = ap (λ (b : Bool). cond b None (Some 0)) h
 rows_taken (e ∷ es) q r h =
     ap (λ (x : Result Entry Cause). after (verdict step_line is_done (map render es)) (step_read q x)) (row_itself e r.0)
@@ -66,10 +66,10 @@ rows_taken (e ∷ es) q r h =
 
 record Taken (ls : List (List ℕ)) (q : State) : Type 0 where
   runs : run (entries_in ls) q ≡ true
-  ranged : All Ranged (entries_in ls)
+  ranged : AllByRecursion Ranged (entries_in ls)
   rows : ls ≡ map render (entries_in ls)
 
-taken : (ls : List (List ℕ)) (q : State) → All OneRow ls → verdict step_line is_done ls q ≡ None → Taken ls q
+taken : (ls : List (List ℕ)) (q : State) → AllByRecursion OneRow ls → verdict step_line is_done ls q ≡ None → Taken ls q
 taken [] q o h = record { runs = ends (is_done q) h; ranged = tt; rows = refl }
   where
     ends : (b : Bool) → ◌≡◌ {A = Option ℕ} (cond b None (Some 0)) None → b ≡ true
@@ -90,7 +90,7 @@ taken (l ∷ ls) q o h = go (read_row l) refl h (λ p k. taken ls p o.1 k)
         let range : Ranged e = (row_only l e x).0 in
         record {
           runs = ap (λ (es : List Entry). run es q) here ∙ ap (run_on (run (entries_in ls))) m ∙ t.runs;
-          ranged = subst (All Ranged) (sym here) (range, t.ranged);
+          ranged = subst (AllByRecursion Ranged) (sym here) (range, t.ranged);
           rows =
               ap (λ (y : List ℕ). y ∷ ls) (line_exact l e o.0 x)
               ∙ ap (λ (ys : List (List ℕ)). render e ∷ ys) t.rows
@@ -124,7 +124,7 @@ formed_table g v =
 
 -- rows that name an absent section
 
-aims_of : (g : Graph) (at : ℕ) (ls : List (List ℕ)) → dangling_from g at ls ≡ None → All (Aims g) (entries_in ls)
+aims_of : (g : Graph) (at : ℕ) (ls : List (List ℕ)) → dangling_from g at ls ≡ None → AllByRecursion (Aims g) (entries_in ls)
 aims_of g at [] h = tt
 aims_of g at (l ∷ ls) h = go (read_row l) h (λ k. aims_of g (at + length l) ls k)
   where
@@ -133,15 +133,15 @@ aims_of g at (l ∷ ls) h = go (read_row l) h (λ k. aims_of g (at + length l) l
     split false e = (refl, e)
 
     go : (x : Result Entry Cause) → cond (dangles g x) (Some at) (dangling_from g (at + length l) ls) ≡ None
-        → (dangling_from g (at + length l) ls ≡ None → All (Aims g) (entries_in ls)) → All (Aims g) (kept x (entries_in ls))
+        → (dangling_from g (at + length l) ls ≡ None → AllByRecursion (Aims g) (entries_in ls)) → AllByRecursion (Aims g) (kept x (entries_in ls))
     go (Ok e) k deeper = let p = split (absent_in g (named e)) k in (p.0, deeper p.1)
     go (Err c) k deeper = deeper k
 
-none_dangles : (g : Graph) (at : ℕ) (ls : List (List ℕ)) → All (Aims g) (entries_in ls) → dangling_from g at ls ≡ None
+none_dangles : (g : Graph) (at : ℕ) (ls : List (List ℕ)) → AllByRecursion (Aims g) (entries_in ls) → dangling_from g at ls ≡ None
 none_dangles g at [] h = refl
 none_dangles g at (l ∷ ls) h = go (read_row l) h (λ k. none_dangles g (at + length l) ls k)
   where
-    go : (x : Result Entry Cause) → All (Aims g) (kept x (entries_in ls)) → (All (Aims g) (entries_in ls) → dangling_from g (at + length l) ls ≡ None)
+    go : (x : Result Entry Cause) → AllByRecursion (Aims g) (kept x (entries_in ls)) → (AllByRecursion (Aims g) (entries_in ls) → dangling_from g (at + length l) ls ≡ None)
         → cond (dangles g x) (Some at) (dangling_from g (at + length l) ls) ≡ None
     go (Ok e) k deeper = ap (λ (b : Bool). cond b (Some at) (dangling_from g (at + length l) ls)) k.0 ∙ deeper k.1
     go (Err c) k deeper = deeper k
@@ -184,7 +184,7 @@ accepted t h =
     let p = no_fault _ _ h in
     let f = formed_text t (unmapped _ (bad_row t) p.0) in
     let a = aims_of (graph_of t) 0 (lines t) (unmapped _ _ p.1) in
-    (valid_from_aims (graph_of t) f.1.0 (subst (All (Aims (graph_of t))) f.1.1 a), f.0)
+    (valid_from_aims (graph_of t) f.1.0 (subst (AllByRecursion (Aims (graph_of t))) f.1.1 a), f.0)
 
 table : (t : List ℕ) (g : Graph) → Valid g → t ≡ text_of g → (fault_of t ≡ None) × (graph_of t ≡ g)
 table t g v e =
@@ -192,8 +192,8 @@ table t g v e =
     let same : graph_of t ≡ g = ap graph_of e ∙ f.1.0 in
     let rows : entries_in (lines t) ≡ entries g = ap (λ (u : List ℕ). entries_in (lines u)) e ∙ f.1.1 in
     let none : bad_row t ≡ None = ap bad_row e ∙ f.0 in
-    let aims : All (Aims (graph_of t)) (entries_in (lines t)) =
-    subst (λ (h : Graph). All (Aims h) (entries_in (lines t))) (sym same) (subst (All (Aims g)) (sym rows) (aims_from_valid g v)) in (
+    let aims : AllByRecursion (Aims (graph_of t)) (entries_in (lines t)) =
+    subst (λ (h : Graph). AllByRecursion (Aims h) (entries_in (lines t))) (sym same) (subst (AllByRecursion (Aims g)) (sym rows) (aims_from_valid g v)) in (
       ap (λ (o : Option ℕ). or_else (option_map (λ k. bad_row_at (row_start (lines t) k)) o) (option_map dangling_at (dangling_from (graph_of t) 0 (lines t)))) none
           ∙ ap (option_map dangling_at) (none_dangles (graph_of t) 0 (lines t) aims),
       same,

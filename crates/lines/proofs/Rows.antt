@@ -1,6 +1,6 @@
 -- A text is its rows, one after another, and a row has byte 10 at its end alone.
 use Rattle.std.proofs.Common.{◌≡◌, ℕ, zero, suc, ◌+◌, ◌<◌, ◌≤◌, Bool, true, false, cond, eqb, List, [], ◌∷◌, ◌++◌, sym, refl, ap, ◌∙◌, subst, arith}
-use Rattle.std.specs.List.{AllByRecursion as All, flat_map}
+use Rattle.std.specs.List.{AllByRecursion, flat_map}
 use Rattle.std.proofs.lemmas.Bool.{eq-eqb, ne_eqb, eqb-true, eqb-false, cond-true, cond-false}
 use Rattle.lines.specs.Lines.{lines, grown}
 
@@ -20,7 +20,7 @@ whole_lines (b ∷ t) = go (eqb b 10) (whole_lines t)
     go false e = whole_grown b (lines t) ∙ ap (λ (xs : List ℕ). b ∷ xs) e
 
 -- a row's text: no byte 10 but the last
-pub lines_row : (m t : List ℕ) → All (λ b. 10 < b) m → lines ((m ++ 10 ∷ []) ++ t) ≡ (m ++ 10 ∷ []) ∷ lines t
+pub lines_row : (m t : List ℕ) → AllByRecursion (λ b. 10 < b) m → lines ((m ++ 10 ∷ []) ++ t) ≡ (m ++ 10 ∷ []) ∷ lines t
 lines_row [] t h = refl
 lines_row (b ∷ m) t h =
     let apart : b ≡ 10 → ⊥ = λ (e : b ≡ 10). omega (arith, h.0) in
@@ -32,16 +32,16 @@ OneRow [] = ⊥
 OneRow (b ∷ []) = Unit {0}
 OneRow (b ∷ (c ∷ l)) = (b ≡ 10 → ⊥) × OneRow (c ∷ l)
 
-one_grown : (b : ℕ) (ls : List (List ℕ)) → (b ≡ 10 → ⊥) → All OneRow ls → All OneRow (grown b ls)
+one_grown : (b : ℕ) (ls : List (List ℕ)) → (b ≡ 10 → ⊥) → AllByRecursion OneRow ls → AllByRecursion OneRow (grown b ls)
 one_grown b [] n h = (tt, tt)
 one_grown b ([] ∷ ls) n h = absurd h.0
 one_grown b ((c ∷ l) ∷ ls) n h = ((n, h.0), h.1)
 
-pub one_lines : (t : List ℕ) → All OneRow (lines t)
+pub one_lines : (t : List ℕ) → AllByRecursion OneRow (lines t)
 one_lines [] = tt
 one_lines (b ∷ t) = go (eqb b 10) refl (one_lines t)
   where
-    go : (c : Bool) → eqb b 10 ≡ c → All OneRow (lines t) → All OneRow (cond c ((b ∷ []) ∷ lines t) (grown b (lines t)))
+    go : (c : Bool) → eqb b 10 ≡ c → AllByRecursion OneRow (lines t) → AllByRecursion OneRow (cond c ((b ∷ []) ∷ lines t) (grown b (lines t)))
     go true e h = (tt, h)
     go false e h = one_grown b (lines t) (eqb-false b 10 e) h
 

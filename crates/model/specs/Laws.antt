@@ -1,6 +1,6 @@
 -- The laws that every section graph keeps.
 use Rattle.std.specs.Prelude.{◌≡◌, ℕ, ◌^◌, ◌<◌, ◌≤◌, List, length, ℤ, pos, negsuc, ◌≤ℤ◌, Some}
-use Rattle.std.specs.List.{AllByRecursion as All}
+use Rattle.std.specs.List.{AllByRecursion}
 use Rattle.model.specs.declared.Target.{Target}
 use Rattle.model.specs.declared.Target.TheVariants.{Section, Outside}
 use Rattle.model.specs.declared.Relocation.{Relocation}
@@ -35,16 +35,16 @@ pub record LawfulBody (Aim : ℕ → Type 0) (b : Body) : Type 0 where
   pub flags : b.flags < 2 ^ 32
   pub alignment : Alignment b.alignment
   pub size : length b.bytes < 2 ^ 16
-  pub bytes : All (λ x. x < 2 ^ 8) b.bytes
+  pub bytes : AllByRecursion (λ x. x < 2 ^ 8) b.bytes
   pub few : length b.relocations < 2 ^ 16
-  pub relocations : All (LawfulRelocation Aim (length b.bytes)) b.relocations
+  pub relocations : AllByRecursion (LawfulRelocation Aim (length b.bytes)) b.relocations
 
 -- the laws, with `Aim` for what is asked of a section that a relocation or a root names
 pub record ValidWhere (Aim : ℕ → Type 0) (g : Graph) : Type 0 where
   pub few : length g.sections ≤ 1024
   pub few_roots : length g.roots ≤ 4096
   pub bodies : (s : ℕ) (b : Body) → section_of g s ≡ Some b → LawfulBody Aim b
-  pub rooted : All Aim g.roots
+  pub rooted : AllByRecursion Aim g.roots
 
 -- the laws: whatever a relocation or a root names is present
 abbrev pub Valid : Graph → Type 0

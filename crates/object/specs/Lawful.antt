@@ -2,7 +2,7 @@
 use Rattle.std.specs.Prelude.{◌≡◌, ℕ, zero, suc, ◌+◌, ◌-◌, ◌*◌, ◌/◌, ◌%◌, ◌^◌, ◌<◌, ◌≤◌, Bool, true, false, cond, not, ◌&&◌, ◌||◌, ◌⊎◌, List, [], ◌∷◌, map, length, take, drop, replicate, ℤ, pos, negsuc, ◌+ℤ◌, ◌≤ℤ◌, is_some, Some, None, filter, Option, ◌==◌, int_lt, slice_index_or, refl}
 use Rattle.std.proofs.Common.{arith, sym, ap, subst, ◌∙◌, inl, inr}
 use Rattle.std.specs.Int.Bits.{bit_and}
-use Rattle.std.specs.List.{range_with_len, AllByRecursion as All}
+use Rattle.std.specs.List.{range_with_len, AllByRecursion}
 use Rattle.std.proofs.lemmas.Bool.{cases_lt, cases_Bool, cases_eq, and_parts, or_cases, eqb-true, eq-eqb, ne_eqb, not-true}
 use Rattle.std.proofs.lemmas.List.{get_or_past, length-replicate}
 use Rattle.std.proofs.lemmas.List.FromFn.{get_or-map-range_with_len, length-map-range_with_len, length-range_with_len, get_or-range_with_len}
@@ -51,18 +51,18 @@ aligned_small a e = go (or_cases (a == 0) (power_below a 17) e)
     go (inl t) = omega (arith, eqb-true a 0 t)
     go (inr t) = let r = power_of a 17 t in omega (arith, pow_below r.0 17 r.1, r.2)
 
-all_zero : (n : ℕ) → All (λ (x : ℕ). x < 2 ^ 8) (replicate n 0)
+all_zero : (n : ℕ) → AllByRecursion (λ (x : ℕ). x < 2 ^ 8) (replicate n 0)
 all_zero zero = tt
 all_zero (suc n) = (omega arith, all_zero n)
 
-all_low : (xs : List ℕ) → All (λ (x : ℕ). x < 2 ^ 8) (map low xs)
+all_low : (xs : List ℕ) → AllByRecursion (λ (x : ℕ). x < 2 ^ 8) (map low xs)
 all_low [] = tt
 all_low (x ∷ xs) = (omega arith, all_low xs)
 
-bytes_law : (b : List ℕ) (h : Header) → All (λ (x : ℕ). x < 2 ^ 8) (bytes_of b h)
+bytes_law : (b : List ℕ) (h : Header) → AllByRecursion (λ (x : ℕ). x < 2 ^ 8) (bytes_of b h)
 bytes_law b h = go (h.kind == 8)
   where
-    go : (t : Bool) → All (λ (x : ℕ). x < 2 ^ 8) (cond t (replicate h.size 0) (map low (take h.size (drop h.offset b))))
+    go : (t : Bool) → AllByRecursion (λ (x : ℕ). x < 2 ^ 8) (cond t (replicate h.size 0) (map low (take h.size (drop h.offset b))))
     go true = all_zero h.size
     go false = all_low (take h.size (drop h.offset b))
 
@@ -104,7 +104,7 @@ entry_law b f t size e k w = go (outside (symbol b e.symbol).section) refl
         }
 
 relocations_law : (b : List ℕ) (s : ℕ) (f : Facts b) (o : Option ℕ) → part b s (sections b) ≡ o
-    → (length (relocations_in b o) < 2 ^ 16) × All (LawfulRelocation (Present (meaning b)) (section b s).size) (relocations_in b o)
+    → (length (relocations_in b o) < 2 ^ 16) × AllByRecursion (LawfulRelocation (Present (meaning b)) (section b s).size) (relocations_in b o)
 relocations_law b s f None e = (omega arith, tt)
 relocations_law b s f (Some r) e =
     let w = whole b s r f e
@@ -130,7 +130,7 @@ body_law b s f l p =
       size = omega (arith, len, h.size);
       bytes = bytes_law b (section b s);
       few = rel.0;
-      relocations = subst (λ (n : ℕ). All (LawfulRelocation (Present (meaning b)) n) (relocations_in b (part b s (sections b)))) (sym len) rel.1;
+      relocations = subst (λ (n : ℕ). AllByRecursion (LawfulRelocation (Present (meaning b)) n) (relocations_in b (part b s (sections b)))) (sym len) rel.1;
     }
 
 told_body : (b : List ℕ) (s : ℕ) (x : Body) → told_section b s ≡ Some x → (present (section b s) ≡ true) × (body b s ≡ x)
@@ -141,14 +141,14 @@ told_body b s x e = go (present (section b s)) refl e
     go false q e' = let z : ◌≡◌ {A = ℕ} 0 1 = cc in absurd (omega arith)
 
 -- a root is a present section
-roots_law : (b : List ℕ) → All (Present (meaning b)) (roots b)
+roots_law : (b : List ℕ) → AllByRecursion (Present (meaning b)) (roots b)
 roots_law b = go (range_with_len 0 (sections b)) (All-from_get_or (λ (j : ℕ). j < sections b) (range_with_len 0 (sections b)) 0 (λ j l. omega (arith, length-range_with_len 0 (sections b), get_or-range_with_len 0 (sections b) j 0)))
   where
-    go : (xs : List ℕ) → All (λ (j : ℕ). j < sections b) xs → All (Present (meaning b)) (filter (is_root b) xs)
+    go : (xs : List ℕ) → AllByRecursion (λ (j : ℕ). j < sections b) xs → AllByRecursion (Present (meaning b)) (filter (is_root b) xs)
     go [] a = tt
     go (x ∷ xs) a = here (is_root b x) refl (go xs a.1)
       where
-        here : (t : Bool) → is_root b x ≡ t → All (Present (meaning b)) (filter (is_root b) xs) → All (Present (meaning b)) (cond t (x ∷ filter (is_root b) xs) (filter (is_root b) xs))
+        here : (t : Bool) → is_root b x ≡ t → AllByRecursion (Present (meaning b)) (filter (is_root b) xs) → AllByRecursion (Present (meaning b)) (cond t (x ∷ filter (is_root b) xs) (filter (is_root b) xs))
         here true q rest = (present_in b x a.0 (and_parts (present (section b x)) _ q).0, rest)
         here false q rest = rest
 

@@ -2,7 +2,7 @@
 ghost use Rattle.std.specs.Prelude.{◌≡◌, ◌≤◌, true, take as front, is_some};
 ghost use Rattle.rules.specs.Rules.{symbols as symbols_in};
 ghost use Rattle.rules.specs.Listing.{significance as significance_in};
-ghost use Rattle.rules.specs.Notes.{parts as PartsIn, marks as marks_in, roots as roots_in};
+ghost use Rattle.rules.specs.Notes.{parts as parts_in, marks as marks_in, roots as roots_in};
 ghost use Rattle.object.specs.Held.{held as held_file};
 
 use rules::Notes;
@@ -19,7 +19,7 @@ pub struct Object {
     // the notes are those of the file
     ghost begun: { notes.symbols.from ≡ (symbols_in (file.items)).from },
     ghost counted: { notes.symbols.count ≡ (symbols_in (file.items)).count },
-    ghost parted: { notes.parts ≡ PartsIn file.items },
+    ghost parted: { notes.parts ≡ parts_in file.items },
     ghost signed: { notes.significant ≡ is_some (significance_in file.items) },
     ghost marked: { notes.listed ≡ marks_in file.items },
     ghost few: { notes.count ≤ 1024 },

@@ -1,6 +1,6 @@
 -- The classes at depth k + 1 from those at depth k.
 use Rattle.std.proofs.Common.{◌≡◌, ℕ, suc, ◌<◌, ◌≤◌, true, false, ◌&&◌, eqb, ltb, List, map, length, get_or, is_some, Some, None, Option, sym, refl, ap, ◌∙◌, subst, ⊎_elim, arith}
-use Rattle.std.specs.List.{AllByRecursion as All}
+use Rattle.std.specs.List.{AllByRecursion}
 use Rattle.std.proofs.lemmas.Bool.{cases_lt, cases_Bool, both_ways, cond-true, lt-ltb, eq-eqb, eqb-true, and_parts, and_from}
 use Rattle.model.specs.Graph.{Body, Graph, Present, section_of}
 use Rattle.model.specs.Laws.{Valid, LawfulRelocation}
@@ -25,10 +25,10 @@ arms_are : (o : Option Body) → arms_in o ≡ map arm (relocations_in o)
 arms_are None = refl
 arms_are (Some b) = refl
 
-lawful_all : (g : Graph) → Valid g → (s : ℕ) → All (LawfulRelocation (Present g) (length (bytes_in (section_of g s)))) (relocations_in (section_of g s))
+lawful_all : (g : Graph) → Valid g → (s : ℕ) → AllByRecursion (LawfulRelocation (Present g) (length (bytes_in (section_of g s)))) (relocations_in (section_of g s))
 lawful_all g v s = go (section_of g s) refl
   where
-    go : (o : Option Body) → section_of g s ≡ o → All (LawfulRelocation (Present g) (length (bytes_in o))) (relocations_in o)
+    go : (o : Option Body) → section_of g s ≡ o → AllByRecursion (LawfulRelocation (Present g) (length (bytes_in o))) (relocations_in o)
     go None e = tt
     go (Some b) e = (v.bodies s b e).relocations
 

@@ -9,7 +9,7 @@ ghost use Rattle.checklist.specs.Checks.{first_fault, each, answer};
 ghost use Rattle.elf.specs.Layout.{place, section as section_in};
 ghost use Rattle.rules.specs.Known.{Headed, Tabled, Parted, Ends, Rooted};
 ghost use Rattle.rules.specs.Listing.{item_checks, items, significance as significance_in, listing_rule, listing_of};
-ghost use Rattle.rules.specs.Notes.{part_note, parts as PartsIn, listed_in, marks as marks_in};
+ghost use Rattle.rules.specs.Notes.{part_note, parts as parts_in, listed_in, marks as marks_in};
 ghost use Rattle.rules.specs.Verdict.{checks, from_extents, from_contents, from_table, from_relocations, from_only_listing};
 ghost use Rattle.rules.specs.declared.Pass.TheVariants.{Extents};
 ghost use Rattle.rules.specs.Rules.{pass_rule, only_rule, of_kind, first_where, table as table_in, part_checks, told_part, relocation_rule, symbol_rule, table_rule, symbols as symbols_in, table_rule_of, symbols_of};
@@ -248,7 +248,7 @@ fn on_listing(
     parts: [u16; 1024],
 ) -> Result<Notes, Fault>
     requires headed { Headed b.now first n }
-    requires parts_value { (parts ≡ PartsIn b.now) × ((Tabled b.now symbols) × (first_fault (each (pass_rule Extents b.now) n) ≡ None)) }
+    requires parts_value { (parts ≡ parts_in b.now) × ((Tabled b.now symbols) × (first_fault (each (pass_rule Extents b.now) n) ≡ None)) }
     ensures { Ends b.now (from_only_listing b.now) result }
 {
     let table = only(b, first, n, 0x6fff4c03)?;

@@ -2,7 +2,7 @@
 use Rattle.std.proofs.Common.{◌≡◌, ℕ, zero, suc, ◌+◌, ◌-◌, ◌*◌, ◌^◌, ◌<◌, ◌≤◌, Bool, true, false, cond, ◌&&◌, T, eqb, leb, ◌⊎◌, List, [], ◌∷◌, ◌++◌, map, length, get_or, take, drop, ℤ, pos, negsuc, ◌≤ℤ◌, Some, None, Ok, Err, Option, Result, sym, refl, ap, ◌∙◌, subst, inl, inr, append_assoc, arith, pow_mono}
 use lib.Signed.{mag, le_z}
 use Rattle.std.specs.Fmt.{signed_decimal}
-use Rattle.std.specs.List.{AllByRecursion as All}
+use Rattle.std.specs.List.{AllByRecursion}
 use Rattle.std.proofs.lemmas.List.{length-append, length-drop, length-map, drop_more, drop_all, drop_at, drop-take, take_at, get_or-map}
 use Rattle.std.proofs.ByRecursion.{All-get_or, All-weaker}
 use Rattle.std.proofs.lemmas.List.Prefix.{front_rest}
@@ -43,7 +43,7 @@ fit_natural n h = (signed_of_natural n h, omega arith)
 fit_byte : (b : ℕ) → b < 2 ^ 8 → Fits 4 (pos b)
 fit_byte b h = (omega (arith, signed_of_byte b h), omega arith)
 
-fit_bytes : (bs : List ℕ) → All (λ b. b < 2 ^ 8) bs → All (Fits 4) (map pos bs)
+fit_bytes : (bs : List ℕ) → AllByRecursion (λ b. b < 2 ^ 8) bs → AllByRecursion (Fits 4) (map pos bs)
 fit_bytes [] h = tt
 fit_bytes (b ∷ bs) h = (fit_byte b h.0, fit_bytes bs h.1)
 
@@ -72,7 +72,7 @@ number_small (Outside e) h = h
 alignment_small : (a : ℕ) → Alignment a → a ≤ 65536
 alignment_small a (k, low, e) = omega (arith, e, pow_mono {i = k} {j = 16} low)
 
-pub fits : (e : Entry) → Ranged e → All (Fits (width e)) (numbers e)
+pub fits : (e : Entry) → Ranged e → AllByRecursion (Fits (width e)) (numbers e)
 fits (header n k) h = (fit_natural n (omega arith), (fit_natural k (omega arith), tt))
 fits (section s r) (low, h) = (
   fit_natural s (omega arith),
@@ -118,7 +118,7 @@ rendered e t =
 column_in : (w k : ℕ) (zs : List ℤ) (c : ℕ) (rest : List ℕ)
     → (0 < w) × (w ≤ 18)
     → k < length zs
-    → All (Fits w) zs
+    → AllByRecursion (Fits w) zs
     → column_at w (c ∷ chained w zs rest) (1 + w * k) ≡ Ok (get_or zs k (pos 0))
 column_in w k zs c rest some low fit =
     column_read w (c ∷ chained w zs rest) (1 + w * k) (get_or zs k (pos 0)) (chained w (drop (k + 1) zs) rest) some.0 some.1
@@ -128,7 +128,7 @@ column_in w k zs c rest some low fit =
 natural_in : (w k : ℕ) (zs : List ℤ) (c limit n : ℕ) (rest : List ℕ)
     → (0 < w) × (w ≤ 18)
     → k < length zs
-    → All (Fits w) zs
+    → AllByRecursion (Fits w) zs
     → get_or zs k (pos 0) ≡ pos n
     → n ≤ limit
     → natural_at w (c ∷ chained w zs rest) (1 + w * k) limit ≡ Ok n
@@ -139,7 +139,7 @@ natural_in w k zs c limit n rest some low fit e small =
     (cond-true (leb n limit) _ _ (le-leb n limit small))
 
 end_in : (w : ℕ) (zs : List ℤ) (c : ℕ) (rest : List ℕ)
-    → All (Fits w) zs
+    → AllByRecursion (Fits w) zs
     → end_at (c ∷ chained w zs (10 ∷ rest)) (1 + w * length zs) ≡ Ok (1 + w * length zs + 1)
 end_in w zs c rest fit =
     end_read (c ∷ chained w zs (10 ∷ rest)) (1 + w * length zs) rest
@@ -287,13 +287,13 @@ column_starts : (w b : ℕ) (rest : List ℕ) → 0 < w → Fits w (pos b) → g
 column_starts w b rest some fit =
     go (column w (pos b)) (length_column w (pos b) fit.0) (column_plain w (pos b) fit.1)
   where
-    go : (xs : List ℕ) → length xs ≡ w → All (λ x. 10 < x) xs → get_or (xs ++ rest) 0 0 ≡ 10 → ⊥
+    go : (xs : List ℕ) → length xs ≡ w → AllByRecursion (λ x. 10 < x) xs → get_or (xs ++ rest) 0 0 ≡ 10 → ⊥
     go [] long plain ten = omega arith
     go (x ∷ xs) long plain ten = omega (arith, plain.0)
 
 more_read : (left : ℕ) (bs t : List ℕ) (at : ℕ) (rest : List ℕ)
     → length bs ≤ left
-    → All (λ b. b < 2 ^ 8) bs
+    → AllByRecursion (λ b. b < 2 ^ 8) bs
     → drop at t ≡ chained 4 (map pos bs) (10 ∷ rest)
     → more_bytes left t at ≡ Ok bs
 unfolding more_bytes
@@ -552,7 +552,7 @@ end_only t e first h =
 
 abbrev More : ℕ → List ℕ → ℕ → List ℕ → Type 0
 More left t at bs =
-    (rest : List ℕ) × (drop at t ≡ chained 4 (map pos bs) (10 ∷ rest)) × (length bs ≤ left) × All (λ b. b < 2 ^ 8) bs
+    (rest : List ℕ) × (drop at t ≡ chained 4 (map pos bs) (10 ∷ rest)) × (length bs ≤ left) × AllByRecursion (λ b. b < 2 ^ 8) bs
 
 more_push : (left : ℕ) (t : List ℕ) (at b : ℕ) (bs : List ℕ)
     → natural_at 4 t at 255 ≡ Ok b
@@ -656,7 +656,7 @@ letter_plain (root s) = omega arith
 letter_plain (end k) = omega arith
 
 -- the only 10 of a row is its last byte
-pub render_plain : (e : Entry) → Ranged e → All (λ b. 10 < b) (letter e ∷ columns (width e) (numbers e))
+pub render_plain : (e : Entry) → Ranged e → AllByRecursion (λ b. 10 < b) (letter e ∷ columns (width e) (numbers e))
 render_plain e h = (
   letter_plain e,
   columns_plain (width e) (numbers e)
@@ -700,7 +700,7 @@ pub length_values : (n : ℕ) (t : List ℕ) → length (values n t) ≡ n
 length_values zero t = refl
 length_values (suc n) t = ap suc (length_values n (drop 4 t))
 
-values_chained : (bs rest : List ℕ) → All (λ b. b < 2 ^ 8) bs → values (length bs) (chained 4 (map pos bs) rest) ≡ bs
+values_chained : (bs rest : List ℕ) → AllByRecursion (λ b. b < 2 ^ 8) bs → values (length bs) (chained 4 (map pos bs) rest) ≡ bs
 values_chained [] rest h = refl
 values_chained (b ∷ bs) rest h =
     let fit = fit_byte b h.0 in

@@ -1,6 +1,6 @@
 -- What a row of a section table tells, its text, and the ranges of its numbers.
 use Rattle.std.specs.Prelude.{ℕ, ◌^◌, ◌<◌, ◌≤◌, List, [], ◌∷◌, ◌++◌, map, length, ℤ, pos}
-use Rattle.std.specs.List.{AllByRecursion as All}
+use Rattle.std.specs.List.{AllByRecursion}
 use Rattle.model.specs.declared.Setting.{Setting}
 use Rattle.model.specs.declared.Setting.TheVariants.{Foldable, Pinned}
 use Rattle.model.specs.declared.Target.{Target}
@@ -91,7 +91,7 @@ pub record RangedRecord (r : Record) : Type 0 where
 abbrev pub Ranged : Entry → Type 0
 Ranged (header n k) = (n ≤ 1024) × (k ≤ 4096)
 Ranged (section s r) = (s < 1024) × RangedRecord r
-Ranged (bytes bs) = (0 < length bs) × (length bs ≤ 16) × All (λ b. b < 2 ^ 8) bs
+Ranged (bytes bs) = (0 < length bs) × (length bs ≤ 16) × AllByRecursion (λ b. b < 2 ^ 8) bs
 Ranged (relocation r) = LawfulRelocation (λ t. t < 2 ^ 16) 65535 r
 Ranged (root t) = t < 2 ^ 16
 Ranged (end k) = k ≤ 1024

@@ -1,6 +1,6 @@
 -- What a row that was read tells, and the part of the text that it occupies.
 use Rattle.std.specs.Prelude.{◌≡◌, ℕ, zero, suc, ◌+◌, ◌*◌, ◌<◌, List, [], ◌∷◌, ◌++◌, length, take, drop, ℤ, pos, negsuc, Some, None, Ok, Err, Option, Result}
-use Rattle.std.specs.List.{AllByRecursion as All}
+use Rattle.std.specs.List.{AllByRecursion}
 use Rattle.column.specs.Columns.{columns, read_column}
 use Rattle.row_part.specs.declared.Cause.{Cause}
 use Rattle.row.specs.declared.Row.{Row}
@@ -73,7 +73,7 @@ OnlyWritten = (t : List ℕ) (e : Entry) → read_row t ≡ Ok e → Ranged e ×
 
 -- a row ends at its first byte 10, and its length depends on its kind alone
 abbrev pub EndsOnce : Type 0
-EndsOnce = (e : Entry) → Ranged e → All (λ b. 10 < b) (letter e ∷ columns (width e) (numbers e))
+EndsOnce = (e : Entry) → Ranged e → AllByRecursion (λ b. 10 < b) (letter e ∷ columns (width e) (numbers e))
 
 abbrev pub AsLong : Type 0
 AsLong = (e : Entry) → Ranged e → length (render e) ≡ row_length e

@@ -2,7 +2,7 @@
 use Rattle.std.proofs.Common.{◌≡◌, ℕ, zero, suc, ◌+◌, ◌-◌, ◌*◌, ◌^◌, ◌<◌, ◌≤◌, min, Bool, true, false, cond, ◌&&◌, eqb, leb, ◌⊎◌, List, [], ◌∷◌, ◌++◌, length, get_or, take, drop, ℤ, pos, negsuc, Some, None, Ok, Err, Option, Result, sym, refl, ap, ◌∙◌, subst, inl, inr, append_assoc, mul-zero, mul-suc, one-add, arith}
 use lib.Signed.{mag}
 use Rattle.std.specs.Fmt.{signed_decimal}
-use Rattle.std.specs.List.{AllByRecursion as All}
+use Rattle.std.specs.List.{AllByRecursion}
 use Rattle.std.proofs.lemmas.List.{length-append, length-drop, length-take-le, take-append-drop, take_at, drop_at, drop-drop, drop_more, get_or_past, get_or-drop}
 use Rattle.std.proofs.lemmas.Bool.{cases_lt, cond-true, eqb-true, eq-eqb, leb-true, le-leb, and_parts}
 use Rattle.column.specs.Columns.{column, columns, read_column, column_of}
@@ -158,7 +158,7 @@ columns_chained w (z ∷ zs) rest =
 
 chained_drop : (w k : ℕ) (zs : List ℤ) (rest : List ℕ)
     → k ≤ length zs
-    → All (Fits w) zs
+    → AllByRecursion (Fits w) zs
     → drop (w * k) (chained w zs rest) ≡ chained w (drop k zs) rest
 chained_drop w zero zs rest h fits = ap (λ n. drop n (chained w zs rest)) (mul-zero w)
 chained_drop w (suc k) [] rest h fits = absurd (omega arith)
@@ -172,6 +172,6 @@ chained_drop w (suc k) (z ∷ zs) rest h fits =
 -- from column k on, after a letter
 pub at_column : (w k : ℕ) (zs : List ℤ) (c : ℕ) (rest : List ℕ)
     → k ≤ length zs
-    → All (Fits w) zs
+    → AllByRecursion (Fits w) zs
     → drop (1 + w * k) (c ∷ chained w zs rest) ≡ chained w (drop k zs) rest
 at_column w k zs c rest h fits = rw (one-add (w * k)) (chained_drop w k zs rest h fits)

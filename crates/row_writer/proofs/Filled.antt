@@ -3,7 +3,7 @@ use Rattle.std.proofs.Common.{◌≡◌, ℕ, suc, ◌+◌, ◌-◌, ◌*◌, �
 use borrow.Rule.Slice.PartMut.{put_mid}
 use Rattle.std.proofs.lemmas.List.{append-nil, length-append, length-drop, length-take-le, take-append-drop, length-set, take_all, take_at, drop_all, drop_at, drop-drop, drop_more, set_at, get_or-map, length-map, take_more}
 use Rattle.std.specs.Fmt.{signed_decimal}
-use Rattle.std.specs.List.{AllByRecursion as All}
+use Rattle.std.specs.List.{AllByRecursion}
 use Rattle.std.proofs.ByRecursion.{All-from_get_or, All-map}
 use Rattle.column.specs.Columns.{column, columns}
 use Rattle.row_writer.specs.declared.Number.{Number}
@@ -153,7 +153,7 @@ module _ (bs : List ℕ) (i at : ℕ) (b : List ℕ) (low : i < length bs) (smal
 -- how long a B row is
 pub bytes_length : (bs : List ℕ) → ((i : ℕ) → get_or bs i 0 < 2 ^ 8) → length (columns 4 (map pos bs)) ≡ 4 * length bs
 bytes_length bs small =
-    let each : All (λ b. length (signed_decimal (pos b)) ≤ 4) bs =
+    let each : AllByRecursion (λ b. length (signed_decimal (pos b)) ≤ 4) bs =
     All-from_get_or (λ b. length (signed_decimal (pos b)) ≤ 4) bs 0
     (λ i h. omega (arith, signed_of_byte (get_or bs i 0) (small i))) in
     length_columns 4 (map pos bs) (All-map (λ z. length (signed_decimal z) ≤ 4) pos bs each)

@@ -1,6 +1,6 @@
 -- The worked examples, by one computation over the table.
 use Rattle.std.proofs.Common.{◌≡◌, List, [], ◌∷◌, map, refl}
-use Rattle.std.specs.List.{AllByRecursion as All}
+use Rattle.std.specs.List.{AllByRecursion}
 use Rattle.unfolding.specs.Groups.{class_by, rep_by, rounds_by}
 use Rattle.unfolding.specs.Reach.{reached}
 use Rattle.unfolding.specs.Sections.{rules}
@@ -16,7 +16,7 @@ computed : map given examples ≡ map wanted examples
 unfolding class_by rep_by rounds_by reached rules
 computed = refl
 
-all_same : {X Y : Type 0} (f h : X → Y) (xs : List X) → map f xs ≡ map h xs → All (λ x. f x ≡ h x) xs
+all_same : {X Y : Type 0} (f h : X → Y) (xs : List X) → map f xs ≡ map h xs → AllByRecursion (λ x. f x ≡ h x) xs
 all_same f h [] e = tt
 all_same f h (x ∷ xs) e =
     let here : f x ≡ h x = cc in

@@ -1,6 +1,6 @@
 -- Worked examples of calls on a new pile: what they answer, and what the pile tells after them.
 use Rattle.std.specs.Prelude.{◌≡◌, ℕ, suc, List, [], ◌∷◌, ◌++◌, replicate, ℤ, pos, negsuc, Some, None, Ok, Err, Option, Result}
-use Rattle.std.specs.List.{AllByRecursion as All}
+use Rattle.std.specs.List.{AllByRecursion}
 use Rattle.fault.specs.declared.Fault.{Fault}
 use Rattle.model.specs.Graph.{Body, Graph, empty, count_of}
 use Rattle.steps.specs.Below.{table}
@@ -308,4 +308,4 @@ examples =
 
 -- the definitions give every example
 abbrev pub ExamplesHold : Type 0
-ExamplesHold = All Gives examples
+ExamplesHold = AllByRecursion Gives examples

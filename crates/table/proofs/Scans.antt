@@ -30,7 +30,7 @@ first_refused t c some h =
     go : (l : List ℕ) (ls : List (List ℕ)) → lines t ≡ l ∷ ls → (x : Result Entry Cause) → read_row l ≡ x → (d : Cause) × (x ≡ Err d)
     go l ls f (Err d) x = (d, refl)
     go l ls f (Ok e) x =
-        let one : OneRow l = (subst (λ (ys : List (List ℕ)). Rattle.std.specs.List.All OneRow ys) f (one_lines t)).0 in
+        let one : OneRow l = (subst (λ (ys : List (List ℕ)). Rattle.std.specs.List.AllByRecursion OneRow ys) f (one_lines t)).0 in
         let text : t ≡ render e ++ whole ls = sym (whole_lines t) ∙ ap whole f ∙ ap (λ (y : List ℕ). y ++ whole ls) (line_exact l e one x) in
         let read : read_row t ≡ Ok e = ap read_row text ∙ row_reads e (row_only l e x).0 (whole ls) in
         absurd (let z : ◌≡◌ {A = ℕ} 0 1 = cc in omega arith)

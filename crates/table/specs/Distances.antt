@@ -1,7 +1,7 @@
 -- The places that the reader computes are those of the graph's bytes, relocations and roots.
 use Rattle.std.specs.Prelude.{◌≡◌, ℕ, zero, suc, ◌+◌, ◌-◌, ◌*◌, ◌/◌, ◌%◌, ◌^◌, ◌<◌, ◌≤◌, Bool, true, false, cond, ◌⊎◌, List, [], ◌∷◌, ◌++◌, map, length, take, drop, ℤ, pos, Some, None, Ok, Err, Option, Result, ◌==◌, slice_index, refl}
 use Rattle.std.proofs.Common.{sym, ap, subst, ◌∙◌, inl, inr, arith, add-zero, zero-add, add_assoc}
-use Rattle.std.specs.List.{flat_map, slice_get, AllByRecursion as All}
+use Rattle.std.specs.List.{flat_map, slice_get, AllByRecursion}
 use Rattle.std.proofs.lemmas.List.{drop-drop, drop_at, drop_more, length-take, length-drop, length-append, get_or-take, get_or-drop, drop_all, nil_from_length}
 use Rattle.std.proofs.ByRecursion.{All-take, All-drop, All-get_or}
 use Rattle.std.proofs.lemmas.Bool.{cases_eq, cases_lt, eq-eqb, ne_eqb}
@@ -28,14 +28,14 @@ stands_after t at e es r h = subst (λ (w : ℕ). Stands t (at + w) es) (render_
 
 -- bytes
 
-row_ranged : (bs : List ℕ) → 0 < length bs → All (λ b. b < 2 ^ 8) bs → Ranged (bytes (take 16 bs))
+row_ranged : (bs : List ℕ) → 0 < length bs → AllByRecursion (λ b. b < 2 ^ 8) bs → Ranged (bytes (take 16 bs))
 row_ranged bs some h =
     let least : 0 < length (take 16 bs) = simp length-take (omega arith) in
     let most : length (take 16 bs) ≤ 16 = simp length-take (omega arith) in
     (least, most, All-take _ 16 bs h)
 
 -- past the first row of some bytes
-next_bytes : (t : List ℕ) (at : ℕ) (bs : List ℕ) (rest : List Entry) → 0 < length bs → All (λ b. b < 2 ^ 8) bs → Stands t at (with_bytes (length bs) bs rest)
+next_bytes : (t : List ℕ) (at : ℕ) (bs : List ℕ) (rest : List Entry) → 0 < length bs → AllByRecursion (λ b. b < 2 ^ 8) bs → Stands t at (with_bytes (length bs) bs rest)
     → Stands t at (bytes (take 16 bs) ∷ with_bytes (length (drop 16 bs)) (drop 16 bs) rest)
     × Stands t (at + (2 + 4 * length (take 16 bs))) (with_bytes (length (drop 16 bs)) (drop 16 bs) rest)
 next_bytes t at bs rest some h s =
@@ -61,7 +61,7 @@ length_short n some few =
     ∙ ap (λ (b : Bool). 66 * 0 + cond b 0 (2 + 4 * n)) (ne_eqb n 0 apart)
     ∙ omega arith
 
-pub past_bytes : (m : ℕ) (t : List ℕ) (at : ℕ) (bs : List ℕ) (rest : List Entry) → length bs ≤ m → All (λ b. b < 2 ^ 8) bs → Stands t at (with_bytes (length bs) bs rest)
+pub past_bytes : (m : ℕ) (t : List ℕ) (at : ℕ) (bs : List ℕ) (rest : List Entry) → length bs ≤ m → AllByRecursion (λ b. b < 2 ^ 8) bs → Stands t at (with_bytes (length bs) bs rest)
     → Stands t (at + bytes_length (length bs)) rest
 past_bytes m t at [] rest few h s = subst (λ (p : ℕ). Stands t p rest) (sym (add-zero at)) s
 past_bytes zero t at (b ∷ bs) rest few h s = absurd (omega arith)
@@ -84,7 +84,7 @@ past_bytes (suc m) t at (b ∷ bs) rest few h s =
         ap (λ (x : ℕ). (at + (2 + 4 * length (take 16 (b ∷ bs)))) + bytes_length x) left
         ∙ omega (arith, length_full (length (b ∷ bs)) full)
 
-pub byte_spot : (m : ℕ) (t : List ℕ) (at : ℕ) (bs : List ℕ) (rest : List Entry) (i : ℕ) → length bs ≤ m → i < length bs → All (λ b. b < 2 ^ 8) bs → Stands t at (with_bytes (length bs) bs rest)
+pub byte_spot : (m : ℕ) (t : List ℕ) (at : ℕ) (bs : List ℕ) (rest : List Entry) (i : ℕ) → length bs ≤ m → i < length bs → AllByRecursion (λ b. b < 2 ^ 8) bs → Stands t at (with_bytes (length bs) bs rest)
     → read_column (take 4 (drop (at + (66 * (i / 16) + (1 + 4 * (i % 16)))) t)) ≡ Some (pos (slice_index bs i))
 byte_spot zero t at bs rest i few inside h s = absurd (omega arith)
 byte_spot (suc m) t at bs rest i few inside h s =
@@ -115,7 +115,7 @@ byte_spot (suc m) t at bs rest i few inside h s =
 
 -- relocations and roots: rows of one length
 
-pub relocation_spot : (t : List ℕ) (at : ℕ) (rs : List Relocation) (rest : List Entry) (j : ℕ) (r : Relocation) → All (λ x. Ranged (relocation x)) rs → slice_get rs j ≡ Some r
+pub relocation_spot : (t : List ℕ) (at : ℕ) (rs : List Relocation) (rest : List Entry) (j : ℕ) (r : Relocation) → AllByRecursion (λ x. Ranged (relocation x)) rs → slice_get rs j ≡ Some r
     → Stands t at (with_relocations rs rest) → read_row (drop (at + 62 * j) t) ≡ Ok (relocation r)
 relocation_spot t at [] rest j r h e s = absurd (let z : ◌≡◌ {A = ℕ} 0 1 = cc in omega arith)
 relocation_spot t at (x ∷ rs) rest zero r h e s =
@@ -127,7 +127,7 @@ relocation_spot t at (x ∷ rs) rest (suc j) r h e s =
     ap (λ (p : ℕ). read_row (drop p t)) place
     ∙ relocation_spot t (at + 62) rs rest j r h.1 e (stands_after t at (relocation x) _ h.0 s)
 
-pub root_spot : (t : List ℕ) (at : ℕ) (ts : List ℕ) (rest : List Entry) (j u : ℕ) → All (λ x. Ranged (root x)) ts → slice_get ts j ≡ Some u
+pub root_spot : (t : List ℕ) (at : ℕ) (ts : List ℕ) (rest : List Entry) (j u : ℕ) → AllByRecursion (λ x. Ranged (root x)) ts → slice_get ts j ≡ Some u
     → Stands t at (with_roots ts rest) → read_row (drop (at + 14 * j) t) ≡ Ok (root u)
 root_spot t at [] rest j u h e s = absurd (let z : ◌≡◌ {A = ℕ} 0 1 = cc in omega arith)
 root_spot t at (x ∷ ts) rest zero u h e s =
@@ -139,14 +139,14 @@ root_spot t at (x ∷ ts) rest (suc j) u h e s =
     ap (λ (p : ℕ). read_row (drop p t)) place
     ∙ root_spot t (at + 14) ts rest j u h.1 e (stands_after t at (root x) _ h.0 s)
 
-roots_length : (ts : List ℕ) (k : ℕ) → All (λ x. Ranged (root x)) ts → Ranged (end k) → length (flat_map render (with_roots ts (end k ∷ []))) ≡ 14 * (length ts + 1)
+roots_length : (ts : List ℕ) (k : ℕ) → AllByRecursion (λ x. Ranged (root x)) ts → Ranged (end k) → length (flat_map render (with_roots ts (end k ∷ []))) ≡ 14 * (length ts + 1)
 roots_length [] k h e = length-append (render (end k)) [] ∙ omega (arith, render_length (end k) e)
 roots_length (x ∷ ts) k h e =
     length-append (render (root x)) (flat_map render (with_roots ts (end k ∷ [])))
     ∙ omega (arith, render_length (root x) h.0, roots_length ts k h.1 e)
 
 -- the roots stand at the end of the text
-pub roots_place : (t : List ℕ) (at : ℕ) (ts : List ℕ) (k : ℕ) → All (λ x. Ranged (root x)) ts → Ranged (end k) → Stands t at (with_roots ts (end k ∷ []))
+pub roots_place : (t : List ℕ) (at : ℕ) (ts : List ℕ) (k : ℕ) → AllByRecursion (λ x. Ranged (root x)) ts → Ranged (end k) → Stands t at (with_roots ts (end k ∷ []))
     → at + 14 * (length ts + 1) ≡ length t
 roots_place t at ts k h e s =
     let left : length t - at ≡ 14 * (length ts + 1) = sym (length-drop at t) ∙ ap length s ∙ roots_length ts k h e in

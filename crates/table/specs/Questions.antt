@@ -1,7 +1,7 @@
 -- Every question is answered by the graph that the text tells.
 use Rattle.std.specs.Prelude.{◌≡◌, ℕ, zero, suc, ◌+◌, ◌-◌, ◌*◌, ◌/◌, ◌%◌, ◌^◌, ◌<◌, ◌≤◌, Bool, true, false, cond, not, ◌⊎◌, List, [], ◌∷◌, ◌++◌, map, length, take, drop, replicate, ℤ, pos, is_some, Some, None, Ok, Err, Option, Result, ◌==◌, nat_lt, slice_index, slice_index_or, refl}
 use Rattle.std.proofs.Common.{sym, ap, subst, ◌∙◌, inl, inr, arith, zero-add, add_assoc}
-use Rattle.std.specs.List.{flat_map, slice_get, AllByRecursion as All}
+use Rattle.std.specs.List.{flat_map, slice_get, AllByRecursion}
 use Rattle.std.proofs.lemmas.List.{append_assoc, get_or-replicate, get_or_past}
 use Rattle.std.proofs.ByRecursion.{All-get_or, All-weaker}
 use Rattle.std.proofs.lemmas.Option.{slice_get-get_or, slice_get_past}
@@ -31,7 +31,7 @@ use Rattle.table.specs.Places.{sections_told, roots_told, record_told, relocatio
 use Rattle.table.specs.Spots.{Stands, stands_next, notes, Spot, Noted, sections_noted, past_sections}
 use Rattle.table.specs.Distances.{stands_read, stands_after, past_bytes, byte_spot, relocation_spot, root_spot, roots_place}
 
-noted_notes : (at : ℕ) (es : List Entry) (xs : List ℕ) → All Ranged es → noted at (map render es) xs ≡ notes at es xs
+noted_notes : (at : ℕ) (es : List Entry) (xs : List ℕ) → AllByRecursion Ranged es → noted at (map render es) xs ≡ notes at es xs
 noted_notes at [] xs r = refl
 noted_notes at (e ∷ es) xs r =
     ap (λ (x : Result Entry Cause). noted (at + length (render e)) (map render es) (note x at xs)) (row_itself e r.0)
@@ -110,7 +110,7 @@ module _ (t : List ℕ) (formed : bad_row t ≡ None) where
       let few : length (graph_of t).sections ≤ 1024 = laws.few in
       (omega arith, record { flags = l.flags; alignment = l.alignment; size = l.size; relocations = l.few })
 
-  relocations_ranged : (s : ℕ) (b : Body) → section_of (graph_of t) s ≡ Some b → All (λ x. Ranged (relocation x)) b.relocations
+  relocations_ranged : (s : ℕ) (b : Body) → section_of (graph_of t) s ≡ Some b → AllByRecursion (λ x. Ranged (relocation x)) b.relocations
   relocations_ranged s b e =
       let l = laws.bodies s b e in
       let few : length b.bytes < 2 ^ 16 = l.size in
@@ -151,7 +151,7 @@ module _ (t : List ℕ) (formed : bad_row t ≡ None) where
   byte_row s b u i e h =
       ap (λ (n : ℕ). cond (nat_lt i n) (byte_told (read_column (take 4 (drop (byte_place i) u)))) None) size ∙ go (cases_lt i (length b.bytes))
     where
-      values : All (λ x. x < 2 ^ 8) b.bytes
+      values : AllByRecursion (λ x. x < 2 ^ 8) b.bytes
       values = (laws.bodies s b e).bytes
 
       size : size_told (read_column (take 12 (drop 37 u))) ≡ length b.bytes
@@ -242,7 +242,7 @@ module _ (t : List ℕ) (formed : bad_row t ≡ None) where
   unnoted_tells None = refl
   unnoted_tells (Some s) = start_tells (section_of (graph_of t) s) s (slice_index (starts_of t) s) (spot_at s)
 
-  loose_rows : (at : ℕ) (es : List Entry) → All Ranged es → loose_from (starts_of t) at (map render es) ≡ dangling_from (graph_of t) at (map render es)
+  loose_rows : (at : ℕ) (es : List Entry) → AllByRecursion Ranged es → loose_from (starts_of t) at (map render es) ≡ dangling_from (graph_of t) at (map render es)
   loose_rows at [] r = refl
   loose_rows at (e ∷ es) r =
       ap (loose_on (starts_of t) at (loose_from (starts_of t) (at + length (render e)) (map render es))) (row_itself e r.0)

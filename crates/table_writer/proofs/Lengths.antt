@@ -1,6 +1,6 @@
 -- How long the parts of a table's text are.
 use Rattle.std.proofs.Common.{◌≡◌, ℕ, zero, suc, ◌+◌, ◌-◌, ◌*◌, ◌/◌, ◌%◌, ◌<◌, ◌≤◌, Bool, true, false, cond, eqb, ◌⊎◌, List, [], ◌∷◌, ◌++◌, length, get_or, take, drop, is_some, Some, None, Option, sym, refl, ap, ◌∙◌, inl, inr, arith}
-use Rattle.std.specs.List.{flat_map, AllByRecursion as All}
+use Rattle.std.specs.List.{flat_map, AllByRecursion}
 use Rattle.std.proofs.lemmas.List.{length-append, length-take, length-drop, drop_more, drop_all}
 use Rattle.std.proofs.lemmas.Bool.{cases_lt, ne_eqb}
 use Rattle.model.specs.declared.Record.{Record}
@@ -27,7 +27,7 @@ abbrev rows_length : List Entry → ℕ
 rows_length [] = 0
 rows_length (e ∷ es) = row_length e + rows_length es
 
-joined_length : (es : List Entry) → All Ranged es → length (flat_map render es) ≡ rows_length es
+joined_length : (es : List Entry) → AllByRecursion Ranged es → length (flat_map render es) ≡ rows_length es
 joined_length [] h = refl
 joined_length (e ∷ es) h =
     omega (arith, length-append (render e) (flat_map render es), render_length e h.0, joined_length es h.1)

@@ -1,6 +1,6 @@
 -- The worked examples, by one test that is computed.
 use Rattle.std.proofs.Common.{◌≡◌, ℕ, Bool, true, ◌&&◌, eqb, List, [], ◌∷◌, refl}
-use Rattle.std.specs.List.{AllByRecursion as All}
+use Rattle.std.specs.List.{AllByRecursion}
 use Rattle.std.proofs.lemmas.Bool.{and_parts, eqb-true}
 use Rattle.std.proofs.lemmas.Bool.Decides.{Decides-eqb}
 use Rattle.model.specs.Graph.{count_of}
@@ -40,7 +40,7 @@ given e t =
       dropped = eqb-true (dropped g) e.dropped h.1;
     }
 
-all_given : (es : List Example) → all_give es ≡ true → All Gives es
+all_given : (es : List Example) → all_give es ≡ true → AllByRecursion Gives es
 all_given [] t = tt
 all_given (e ∷ es) t =
     let parts = and_parts (gives e) (all_give es) t in

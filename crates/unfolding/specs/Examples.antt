@@ -1,6 +1,6 @@
 -- Worked examples: small graphs, and what folding and sweeping them gives.
 use Rattle.std.specs.Prelude.{◌≡◌, ℕ, Bool, true, false, ◌&&◌, List, [], ◌∷◌, length, ℤ, pos, negsuc, Some, None, Option, ◌==◌, nat_eq}
-use Rattle.std.specs.List.{AllByRecursion as All}
+use Rattle.std.specs.List.{AllByRecursion}
 use Rattle.model.specs.declared.Setting.{Setting}
 use Rattle.model.specs.declared.Setting.TheVariants.{Foldable, Pinned}
 use Rattle.model.specs.declared.Target.{Target}
@@ -154,4 +154,4 @@ examples =
 
 -- the definitions give every example
 abbrev pub ExamplesHold : Type 0
-ExamplesHold = All Gives examples
+ExamplesHold = AllByRecursion Gives examples

@@ -25,8 +25,8 @@ returns-then-not-same_class_told g c =
     let j = c.loop-j.j in
     let asked =
     c.same_class_told.ensures ∙
-    (ap (λ (a : Option Relocation). both_told (same_aim c.args.class.now) a c.relocation_in-loop-j.result) c.relocation.ensures ∙
-    ap (λ (b : Option Relocation). both_told (same_aim c.args.class.now) (told_relocation o j) b) c.relocation_in-loop-j.ensures) in
+    (ap (λ (a : Option Relocation). both_told (same_aim c.args.class.now) a c.relocation-in-loop-j.result) c.relocation.ensures ∙
+    ap (λ (b : Option Relocation). both_told (same_aim c.args.class.now) (told_relocation o j) b) c.relocation-in-loop-j.ensures) in
     test_fails (same_aim c.args.class.now) o p j (sym asked ∙ c.if-not-same_class_told.true) c.loop-j.invariant
 
 pub loop-j-preserved : goal.loop-j-preserved
@@ -37,8 +37,8 @@ loop-j-preserved g c =
     let j = c.loop-j.j in
     let asked =
     c.same_class_told.ensures ∙
-    (ap (λ (a : Option Relocation). both_told (same_aim c.args.class.now) a c.relocation_in-loop-j.result) c.relocation.ensures ∙
-    ap (λ (b : Option Relocation). both_told (same_aim c.args.class.now) (told_relocation o j) b) c.relocation_in-loop-j.ensures) in
+    (ap (λ (a : Option Relocation). both_told (same_aim c.args.class.now) a c.relocation-in-loop-j.result) c.relocation.ensures ∙
+    ap (λ (b : Option Relocation). both_told (same_aim c.args.class.now) (told_relocation o j) b) c.relocation-in-loop-j.ensures) in
     test_next (same_aim c.args.class.now) o p j (sym asked ∙ c.if-not-same_class_told.false) c.loop-j.invariant
 
 pub returns : goal.returns

@@ -24,8 +24,8 @@ returns-then-not-same_link_told g c =
     let j = c.loop-j.j in
     let asked =
     c.same_link_told.ensures ∙
-    (ap (λ (a : Option Relocation). both_told same_bare a c.relocation_in-loop-j.result) c.relocation.ensures ∙
-    ap (λ (b : Option Relocation). both_told same_bare (told_relocation o j) b) c.relocation_in-loop-j.ensures) in
+    (ap (λ (a : Option Relocation). both_told same_bare a c.relocation-in-loop-j.result) c.relocation.ensures ∙
+    ap (λ (b : Option Relocation). both_told same_bare (told_relocation o j) b) c.relocation-in-loop-j.ensures) in
     test_fails same_bare o p j (sym asked ∙ c.if-not-same_link_told.true) c.loop-j.invariant
 
 pub loop-j-preserved : goal.loop-j-preserved
@@ -36,8 +36,8 @@ loop-j-preserved g c =
     let j = c.loop-j.j in
     let asked =
     c.same_link_told.ensures ∙
-    (ap (λ (a : Option Relocation). both_told same_bare a c.relocation_in-loop-j.result) c.relocation.ensures ∙
-    ap (λ (b : Option Relocation). both_told same_bare (told_relocation o j) b) c.relocation_in-loop-j.ensures) in
+    (ap (λ (a : Option Relocation). both_told same_bare a c.relocation-in-loop-j.result) c.relocation.ensures ∙
+    ap (λ (b : Option Relocation). both_told same_bare (told_relocation o j) b) c.relocation-in-loop-j.ensures) in
     test_next same_bare o p j (sym asked ∙ c.if-not-same_link_told.false) c.loop-j.invariant
 
 pub returns : goal.returns

@@ -12,7 +12,7 @@ use Rattle.rules.specs.Notes.{listed_in}
 use Rattle.rules.specs.Listing.{items, item_checks, number_checks, marked}
 use Rattle.reading.proofs.Scan.{Scanned, all, began, begun_is, begin, bad_number, goes_on, no_symbol, is_whole, cut_off, all_read, moved}
 use Rattle.reading.proofs.listing.Goals as goal
-use Rattle.reading.proofs.listing.Goals.{in-More, in-Whole+in_ok-s}
+use Rattle.reading.proofs.listing.Goals.{in-More, in-Whole+in_ok-s-in-Whole}
 
 pub loop-i-init : goal.loop-i-init
 loop-i-init c =
@@ -31,19 +31,19 @@ returns-in_err-m c =
     in let p = err_from_is_err_and c.from_residual.result c.from_residual.ensures.1
     in rw (p.1, p.2) (answer_some (first_fault (item_checks (symbols b).count (all c.args.base bytes))) f (map (listed_in b (all c.args.base bytes)) (range_with_len 0 1024)) found)
 
-pub returns-in_err-s : goal.returns-in_err-s
-returns-in_err-s c =
+pub returns-in_err-s-in-Whole : goal.returns-in_err-s-in-Whole
+returns-in_err-s-in-Whole c =
     let b = c.args.b.now
     in let bytes = c.args.bytes.now
     in let i = c.loop-i.i
-    in let f = c.in_err-s.field-0.0
+    in let f = c.in_err-s-in-Whole.field-0.0
     in let m = c.in-Whole.m
     in let from = c.begun-from.ensures ∙ begun_is c.loop-i.n.taken (c.args.base + i) c.loop-i.from
-    in let bad = err_some (first_fault (number_checks (symbols b).count c.begun-from.result (Ok m))) f (symbol b m.value) c.in_err-s.ensures
+    in let bad = err_some (first_fault (number_checks (symbols b).count c.begun-from.result (Ok m))) f (symbol b m.value) c.in_err-s-in-Whole.ensures
     in let found = no_symbol b c.args.base bytes i c.loop-i.n c.loop-i.from c.loop-i.marks f m c.loop-i.invariant (omega arith) (c.type_inv.bytes i).fits
     (ap Ok (sym c.in-Whole.is) ∙ (c.in_ok-m.ensures ∙ ap (gathered c.loop-i.n (get_or bytes i 0)) from))
     (ap (λ (x : ℕ). first_fault (number_checks (symbols b).count x (Ok m))) (sym from) ∙ bad)
-    in let p = err_from_is_err_and c.from_residual-in_err-s.result c.from_residual-in_err-s.ensures.1
+    in let p = err_from_is_err_and c.from_residual-in_err-s-in-Whole.result c.from_residual-in_err-s-in-Whole.ensures.1
     in rw (p.1, p.2) (answer_some (first_fault (item_checks (symbols b).count (all c.args.base bytes))) f (map (listed_in b (all c.args.base bytes)) (range_with_len 0 1024)) found)
 
 pub loop-i-preserved : goal.loop-i-preserved
@@ -58,9 +58,9 @@ loop-i-preserved c =
           w.n-is from w.marks-is
           (goes_on b c.args.base bytes i c.loop-i.n c.loop-i.from c.loop-i.marks w.in-More.m c.loop-i.invariant (omega arith) (c.type_inv.bytes i).fits
           (ap Ok (sym w.in-More.is) ∙ (c.in_ok-m.ensures ∙ ap (gathered c.loop-i.n (get_or bytes i 0)) from)))
-      | in-Whole+in_ok-s w ↦
+      | in-Whole+in_ok-s-in-Whole w ↦
           let m = w.in-Whole.m
-          in let good = ok_none (first_fault (number_checks (symbols b).count c.begun-from.result (Ok m))) w.in_ok-s.s (symbol b m.value) w.in_ok-s.ensures
+          in let good = ok_none (first_fault (number_checks (symbols b).count c.begun-from.result (Ok m))) w.in_ok-s-in-Whole.s (symbol b m.value) w.in_ok-s-in-Whole.ensures
           in moved b c.args.base bytes (i + 1) c.match-branch-2.n none_yet c.begun-from.result (began c.loop-i.n.taken (c.args.base + i) c.loop-i.from) c.match-branch-2.marks (marked (symbol b m.value) c.loop-i.marks)
           (w.n-is ∙ w.none_yet-n-in-Whole.ensures) from
           (w.marks-is ∙ (w.mark.ensures ∙ ap (λ (x : Symbol). marked x c.loop-i.marks) good.1))

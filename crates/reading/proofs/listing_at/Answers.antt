@@ -8,6 +8,6 @@ pub returns : goal.returns
 returns c =
     let b = c.args.b.now
     in let h = c.in_ok-h.h
-    in let s = header_is b c.args.first c.args.n c.args.a h c.requires.0 c.in_ok-h.ensures
+    in let s = header_is b c.args.first c.args.n c.args.a h c.requires.headed c.in_ok-h.ensures
     in let size : (h.offset + h.size) - h.offset ≡ h.size = omega arith
     in c.listing.ensures ∙ (ap (listing_read b h.offset) size ∙ ap (λ (x : Header). listing_read b x.offset x.size) s)

@@ -21,7 +21,7 @@ returns-in_err-every_section c =
     in let p = err_from_is_err_and c.from_residual.result c.from_residual.ensures.1
     in rw (p.1, p.2)
     (ends_err b (each (pass_rule Contents b) (sections b)) (from_only_table b) f
-    (ap (λ (x : ℕ). first_fault (each (pass_rule Contents b) x)) (sym c.requires.0.count_right) ∙ err_some (first_fault (each (pass_rule Contents b) c.args.n)) f tt c.in_err-every_section.ensures))
+    (ap (λ (x : ℕ). first_fault (each (pass_rule Contents b) x)) (sym c.requires.headed.count_right) ∙ err_some (first_fault (each (pass_rule Contents b) c.args.n)) f tt c.in_err-every_section.ensures))
 
 pub returns-in_err-found : goal.returns-in_err-found
 returns-in_err-found c =
@@ -31,16 +31,16 @@ returns-in_err-found c =
     in let p = err_from_is_err_and c.from_residual-in_err-found.result c.from_residual-in_err-found.ensures.1
     in rw (p.1, p.2)
     (ends_on b (each (pass_rule Contents b) (sections b)) (from_only_table b) (Err f)
-    (ap (λ (x : ℕ). first_fault (each (pass_rule Contents b) x)) (sym c.requires.0.count_right) ∙ good.0)
+    (ap (λ (x : ℕ). first_fault (each (pass_rule Contents b) x)) (sym c.requires.headed.count_right) ∙ good.0)
     (ends_err b (each (only_rule 2 b) (sections b)) (from_table b) f
-    (ap (λ (x : ℕ). first_fault (each (only_rule 2 b) x)) (sym c.requires.0.count_right)
+    (ap (λ (x : ℕ). first_fault (each (only_rule 2 b) x)) (sym c.requires.headed.count_right)
     ∙ err_some (first_fault (each (only_rule 2 b) c.args.n)) f (first_where (of_kind 2 b) c.args.n) c.in_err-found.ensures)))
 
 pub on_table-requires : goal.on_table-requires
 on_table-requires c =
     let b = c.args.b.now
     in let found = ok_none (first_fault (each (only_rule 2 b) c.args.n)) c.in_ok-found.found (first_where (of_kind 2 b) c.args.n) c.in_ok-found.ensures
-    in (c.requires.0, (found.1 ∙ ap (first_where (of_kind 2 b)) c.requires.0.count_right, c.requires.1))
+    in record { headed = c.requires.headed; found_value = (found.1 ∙ ap (first_where (of_kind 2 b)) c.requires.headed.count_right, c.requires.n_value) }
 
 pub returns : goal.returns
 returns c =
@@ -48,6 +48,6 @@ returns c =
     in let good = ok_none (first_fault (each (pass_rule Contents b) c.args.n)) c.in_ok-every_section.field-0 tt c.in_ok-every_section.ensures
     in let found = ok_none (first_fault (each (only_rule 2 b) c.args.n)) c.in_ok-found.found (first_where (of_kind 2 b) c.args.n) c.in_ok-found.ensures
     in ends_on b (each (pass_rule Contents b) (sections b)) (from_only_table b) c.on_table.result
-    (ap (λ (x : ℕ). first_fault (each (pass_rule Contents b) x)) (sym c.requires.0.count_right) ∙ good.0)
+    (ap (λ (x : ℕ). first_fault (each (pass_rule Contents b) x)) (sym c.requires.headed.count_right) ∙ good.0)
     (ends_on b (each (only_rule 2 b) (sections b)) (from_table b) c.on_table.result
-    (ap (λ (x : ℕ). first_fault (each (only_rule 2 b) x)) (sym c.requires.0.count_right) ∙ found.0) c.on_table.ensures)
+    (ap (λ (x : ℕ). first_fault (each (only_rule 2 b) x)) (sym c.requires.headed.count_right) ∙ found.0) c.on_table.ensures)

@@ -22,14 +22,14 @@ returns-in_err-table c =
     in let p = err_from_is_err_and c.from_residual.result c.from_residual.ensures.1
     in rw (p.1, p.2)
     (ends_err b (each (only_rule significance_kind b) (sections b)) (listing_rule b) f
-    (ap (λ (x : ℕ). first_fault (each (only_rule significance_kind b) x)) (sym c.requires.0.count_right)
+    (ap (λ (x : ℕ). first_fault (each (only_rule significance_kind b) x)) (sym c.requires.headed.count_right)
     ∙ err_some (first_fault (each (only_rule significance_kind b) c.args.n)) f (first_where (of_kind significance_kind b) c.args.n) c.in_err-table.ensures))
 
 pub significance-requires : goal.significance-requires
 significance-requires c =
     let b = c.args.b.now
     in let found = ok_none (first_fault (each (only_rule significance_kind b) c.args.n)) c.in_ok-table.table (first_where (of_kind significance_kind b) c.args.n) c.in_ok-table.ensures
-    in (c.requires.0, (found.1 ∙ ap (first_where (of_kind significance_kind b)) c.requires.0.count_right, (c.requires.1.1.0, c.requires.1.1.1)))
+    in record { headed = c.requires.headed; found_value = (found.1 ∙ ap (first_where (of_kind significance_kind b)) c.requires.headed.count_right, (c.requires.parts_value.1.0, c.requires.parts_value.1.1)) }
 
 pub returns-in_err-listed : goal.returns-in_err-listed
 returns-in_err-listed c =
@@ -39,13 +39,13 @@ returns-in_err-listed c =
     in let p = err_from_is_err_and c.from_residual-in_err-listed.result c.from_residual-in_err-listed.ensures.1
     in rw (p.1, p.2)
     (ends_on b (each (only_rule significance_kind b) (sections b)) (listing_rule b) (Err f)
-    (ap (λ (x : ℕ). first_fault (each (only_rule significance_kind b) x)) (sym c.requires.0.count_right) ∙ found.0)
+    (ap (λ (x : ℕ). first_fault (each (only_rule significance_kind b) x)) (sym c.requires.headed.count_right) ∙ found.0)
     (err_some (first_fault (listing_rule b)) f (marks b) c.in_err-listed.ensures))
 
 pub returns : goal.returns
 returns c =
     let b = c.args.b.now
-    in let known = c.requires.0
+    in let known = c.requires.headed
     in let found = ok_none (first_fault (each (only_rule significance_kind b) c.args.n)) c.in_ok-table.table (first_where (of_kind significance_kind b) c.args.n) c.in_ok-table.ensures
     in let listed = ok_none (first_fault (listing_rule b)) c.in_ok-listed.listed (marks b) c.in_ok-listed.ensures
     in let rooted = c.in_ok-kept.ensures
@@ -53,8 +53,8 @@ returns c =
     (ap (λ (x : ℕ). first_fault (each (only_rule significance_kind b) x)) (sym known.count_right) ∙ found.0) (
       listed.0,
       record {
-        symbols_right = c.requires.1.1.0.symbols_right;
-        parts_right = c.requires.1.0;
+        symbols_right = c.requires.parts_value.1.0.symbols_right;
+        parts_right = c.requires.parts_value.0;
         listing_right = c.is_some.ensures ∙ ap is_some (found.1 ∙ ap (first_where (of_kind significance_kind b)) known.count_right);
         marks_right = listed.1;
         few_roots = omega (arith, rooted.few, known.few);

@@ -23,18 +23,18 @@ returns-in_err-parts c =
     in let p = err_from_is_err_and c.from_residual.result c.from_residual.ensures.1
     in rw (p.1, p.2)
     (ends_err b (each (relocation_rule b) (sections b)) (from_only_listing b) f
-    (ap (λ (x : ℕ). first_fault (each (relocation_rule b) x)) (sym c.requires.0.count_right)
+    (ap (λ (x : ℕ). first_fault (each (relocation_rule b) x)) (sym c.requires.headed.count_right)
     ∙ err_some (first_fault (each (relocation_rule b) c.args.n)) f (map (part_note b c.args.n) (range_with_len 0 1024)) c.in_err-parts.ensures))
 
 pub on_listing-requires : goal.on_listing-requires
 on_listing-requires c =
     let b = c.args.b.now
     in let good = ok_none (first_fault (each (relocation_rule b) c.args.n)) c.in_ok-parts.parts (map (part_note b c.args.n) (range_with_len 0 1024)) c.in_ok-parts.ensures
-    in (c.requires.0, (good.1 ∙ ap (λ (x : ℕ). map (part_note b x) (range_with_len 0 1024)) c.requires.0.count_right, (c.requires.1.1.0, c.requires.1.1.1)))
+    in record { headed = c.requires.headed; parts_value = (good.1 ∙ ap (λ (x : ℕ). map (part_note b x) (range_with_len 0 1024)) c.requires.headed.count_right, (c.requires.found_value.1.0, c.requires.found_value.1.1)) }
 
 pub returns : goal.returns
 returns c =
     let b = c.args.b.now
     in let good = ok_none (first_fault (each (relocation_rule b) c.args.n)) c.in_ok-parts.parts (map (part_note b c.args.n) (range_with_len 0 1024)) c.in_ok-parts.ensures
     in ends_on b (each (relocation_rule b) (sections b)) (from_only_listing b) c.on_listing.result
-    (ap (λ (x : ℕ). first_fault (each (relocation_rule b) x)) (sym c.requires.0.count_right) ∙ good.0) c.on_listing.ensures
+    (ap (λ (x : ℕ). first_fault (each (relocation_rule b) x)) (sym c.requires.headed.count_right) ∙ good.0) c.on_listing.ensures

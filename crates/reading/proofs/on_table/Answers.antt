@@ -25,7 +25,7 @@ pub on_relocations-requires : goal.on_relocations-requires
 on_relocations-requires c =
     let b = c.args.b.now
     in let good = ok_none (first_fault (table_rule b)) c.in_ok-symbols.symbols (symbols b) c.in_ok-symbols.ensures
-    in (c.requires.0, (c.requires.1.0, (subst (Tabled b) (sym good.1) (tabled b c.args.first c.args.n c.requires.0 c.requires.1.1), c.requires.1.1)))
+    in record { headed = c.requires.headed; found_value = (c.requires.found_value.0, (subst (Tabled b) (sym good.1) (tabled b c.args.first c.args.n c.requires.headed c.requires.found_value.1), c.requires.found_value.1)) }
 
 pub returns : goal.returns
 returns c =

@@ -9,28 +9,28 @@ use Rattle.rules.specs.Notes.{part_note}
 use Rattle.reading.proofs.Parting.{part_ends}
 use Rattle.reading.proofs.Turns.{start, ended, passed_over, into, entry_more, out, part_found, entry_found}
 use Rattle.reading.proofs.relocations.Goals as goal
-use Rattle.reading.proofs.relocations.Goals.{in-None, in-Some+else-loop-j-test, else-reading-test, then-reading-test+in-Err, then-reading-test+in-Ok+in-Some+then-loop-j-test+in-Err-entry-at}
+use Rattle.reading.proofs.relocations.Goals.{in-None, in-Some+else-loop-j-test, else-reading-test, then-reading-test+in-Err, then-reading-test+in-Ok+in-Some+then-loop-j-test+in-Err-entry_at}
 
 pub reading-init : goal.reading-init
 reading-init c = start c.args.b.now
 
 pub bounds-parts-part : goal.bounds-parts-part
 bounds-parts-part c =
-    (into c.args.b.now c.reading.i _ c.reading.parts c.in-Some.part c.reading.invariant (rw c.requires.0.count_right at c.requires.0.few) (ap Ok (sym c.in-Some.is) ∙ c.in-Ok.ensures)).0
+    (into c.args.b.now c.reading.i _ c.reading.parts c.in-Some.part c.reading.invariant (rw c.requires.headed.count_right at c.requires.headed.few) (ap Ok (sym c.in-Some.is) ∙ c.in-Ok.ensures)).0
 
 pub loop-j-init : goal.loop-j-init
 loop-j-init c =
-    (into c.args.b.now c.reading.i _ c.reading.parts c.in-Some.part c.reading.invariant (rw c.requires.0.count_right at c.requires.0.few) (ap Ok (sym c.in-Some.is) ∙ c.in-Ok.ensures)).1
+    (into c.args.b.now c.reading.i _ c.reading.parts c.in-Some.part c.reading.invariant (rw c.requires.headed.count_right at c.requires.headed.few) (ap Ok (sym c.in-Some.is) ∙ c.in-Ok.ensures)).1
 
 pub overflow_add-q : goal.overflow_add-q
 overflow_add-q c =
-    let ends = part_ends c.args.b.now c.args.first c.args.n c.reading.i c.in-Some.part c.requires.0 c.reading-test.true c.loop-j.invariant.told c.requires.1.1.1
+    let ends = part_ends c.args.b.now c.args.first c.args.n c.reading.i c.in-Some.part c.requires.headed c.reading-test.true c.loop-j.invariant.told c.requires.found_value.1.1
     in record { fits = omega arith }
 
 pub entry_at-requires : goal.entry_at-requires
 entry_at-requires c =
-    let ends = part_ends c.args.b.now c.args.first c.args.n c.reading.i c.in-Some.part c.requires.0 c.reading-test.true c.loop-j.invariant.told c.requires.1.1.1
-    in (c.requires.0, (c.requires.1.1.0, omega arith))
+    let ends = part_ends c.args.b.now c.args.first c.args.n c.reading.i c.in-Some.part c.requires.headed c.reading-test.true c.loop-j.invariant.told c.requires.found_value.1.1
+    in record { headed = c.requires.headed; tabled = (c.requires.found_value.1.0, omega arith) }
 
 pub loop-j-preserved : goal.loop-j-preserved
 loop-j-preserved c =
@@ -60,7 +60,7 @@ returns-in-None-refused c =
           in let done = ended b c.reading.i c.args.n _ c.reading.parts c.reading.invariant end
           in ap Ok (w.parts-is ∙ done.1) ∙ answer_none (first_fault (each (relocation_rule b) c.args.n)) (map (part_note b c.args.n) (range_with_len 0 1024)) done.0
       | then-reading-test+in-Err w ↦ let z : ◌≡◌ {A = ℕ} 0 1 = cc in absurd (omega arith)
-      | then-reading-test+in-Ok+in-Some+then-loop-j-test+in-Err-entry-at w ↦ let z : ◌≡◌ {A = ℕ} 0 1 = cc in absurd (omega arith)
+      | then-reading-test+in-Ok+in-Some+then-loop-j-test+in-Err-entry_at w ↦ let z : ◌≡◌ {A = ℕ} 0 1 = cc in absurd (omega arith)
     ]
 
 pub returns-in-Some-refused : goal.returns-in-Some-refused
@@ -73,7 +73,7 @@ returns-in-Some-refused c =
           in ap Err same
           ∙ answer_some (first_fault (each (relocation_rule b) c.args.n)) w.in-Err.f (map (part_note b c.args.n) (range_with_len 0 1024))
           (part_found b c.reading.i _ c.reading.parts c.args.n w.in-Err.f c.reading.invariant w.reading-test.true w.in-Err.ensures)
-      | then-reading-test+in-Ok+in-Some+then-loop-j-test+in-Err-entry-at w ↦
+      | then-reading-test+in-Ok+in-Some+then-loop-j-test+in-Err-entry_at w ↦
           let b = c.args.b.now
           in let m = w.in-Some.part
           in let q : ℕ = m.from + 24 * w.loop-j.j

@@ -6,6 +6,6 @@ use Rattle.reading.proofs.symbol_table.Goals as goal
 pub symbols_at-requires : goal.symbols_at-requires
 symbols_at-requires c =
     let b = c.args.b.now
-    in let known = c.requires.0
-    in let at = only_is 2 b c.args.first c.args.n c.in-Some.t known (sym c.in-Some.is ∙ c.requires.1.0)
-    in (known, (at.0, extent_is b c.args.first c.args.n c.in-Some.t known at.0 (λ e. omega (arith, at.1)) (λ e. omega (arith, at.1)) c.requires.1.1))
+    in let known = c.requires.headed
+    in let at = only_is 2 b c.args.first c.args.n c.in-Some.t known (sym c.in-Some.is ∙ c.requires.found_value.0)
+    in record { headed = known; t_lt_n = (at.0, extent_is b c.args.first c.args.n c.in-Some.t known at.0 (λ e. omega (arith, at.1)) (λ e. omega (arith, at.1)) c.requires.found_value.1) }

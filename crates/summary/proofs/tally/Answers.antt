@@ -15,14 +15,14 @@ pub overflow_add-bytes : goal.overflow_add-bytes
 overflow_add-bytes g c = omega (arith, c.loop-s.invariant.few_bytes, c.from-bytes.ensures, c.its_bytes.type_inv)
 
 pub overflow_add-relocations : goal.overflow_add-relocations
-overflow_add-relocations g c = omega (arith, c.loop-s.invariant.few_relocations, c.from_relocations.ensures, c.its_relocations.type_inv)
+overflow_add-relocations g c = omega (arith, c.loop-s.invariant.few_relocations, c.from-relocations.ensures, c.its_relocations.type_inv)
 
 pub loop-s-preserved : goal.loop-s-preserved
 loop-s-preserved g c =
     sums_more (g.G.SectionGraph.graph c.args.graph.now) c.loop-s.s _ _ _ _ c.record_of-told.result _ _ _ _
     c.loop-s.invariant c.record_of-told.ensures c.one_present-present.ensures c.one_pinned-pinned.ensures
-    (c.from-bytes.ensures ∙ c.its_bytes.ensures) (c.from_relocations.ensures ∙ c.its_relocations.ensures)
-    (omega (arith, c.from-bytes.ensures, c.its_bytes.type_inv)) (omega (arith, c.from_relocations.ensures, c.its_relocations.type_inv))
+    (c.from-bytes.ensures ∙ c.its_bytes.ensures) (c.from-relocations.ensures ∙ c.its_relocations.ensures)
+    (omega (arith, c.from-bytes.ensures, c.its_bytes.type_inv)) (omega (arith, c.from-relocations.ensures, c.its_relocations.type_inv))
 
 pub returns : goal.returns
 returns g c =

@@ -12,8 +12,8 @@ use Rattle.object.proofs.Holding.{kept_of}
 use Rattle.object.proofs.Holding.{none_held, none_kept, none_means}
 use Rattle.object.proofs.held.Object.new.Goals as goal
 
-pub invariant-of-result : goal.invariant-of-result
-invariant-of-result c =
+pub invariant_of-result : goal.invariant_of-result
+invariant_of-result c =
     let e : vec_items c.new.result ≡ [] = c.new.ensures.items
     in let k = none_kept (vec_items c.new.result) e
     in (

@@ -30,8 +30,8 @@ returns-in_err-notes c =
       holds = sym (ap (λ (o : Option Fault). after o b (vec_items c.args.self.now.file)) w);
     }
 
-pub invariant-of-self : goal.invariant-of-self
-invariant-of-self c =
+pub invariant_of-self : goal.invariant_of-self
+invariant_of-self c =
     let b = vec_items c.args.file
     in let x = c.in_ok-notes.notes
     in let w = subst (λ (y : List ℕ). Ends y (checks y) (Ok x)) c.as_slice.ensures.value c.in_ok-notes.ensures

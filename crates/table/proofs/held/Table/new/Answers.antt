@@ -5,9 +5,8 @@ use Rattle.table.specs.Outcomes.{held_none}
 use Rattle.table.proofs.held.Table.new.Goals as goal
 
 -- no text is held, and nothing is noted
-pub invariant-of-result : goal.invariant-of-result
-invariant-of-result c = (
-  subst (λ (xs : List ℕ). held (vec_items c.new.result) xs ≡ true) (sym c.no_starts.ensures)
-      (subst (λ (t : List ℕ). held t no_notes ≡ true) (sym c.new.ensures.items) held_none),
-  tt,
-)
+pub invariant_of-result : goal.invariant_of-result
+invariant_of-result c = record {
+  fit = subst (λ (xs : List ℕ). held (vec_items c.new.result) xs ≡ true) (sym c.no_starts.ensures)
+      (subst (λ (t : List ℕ). held t no_notes ≡ true) (sym c.new.ensures.items) held_none);
+}

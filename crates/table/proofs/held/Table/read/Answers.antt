@@ -18,11 +18,11 @@ returns-in_err-starts c =
       verdict = verdict_stands t;
     }
 
-pub invariant-of-self : goal.invariant-of-self
-invariant-of-self c =
+pub invariant_of-self : goal.invariant_of-self
+invariant_of-self c =
     let t : List ℕ = vec_items c.args.text in
     let e = examined_ok t c.in_ok-starts.starts (sym (c.examine.ensures ∙ ap examined c.as_slice.ensures.value) ∙ c.in_ok-starts.was) in
-    (held_read t c.in_ok-starts.starts e.0 e.1, tt)
+    record { fit = held_read t c.in_ok-starts.starts e.0 e.1 }
 
 pub returns : goal.returns
 returns c =
