@@ -59,7 +59,7 @@ relocation_at-requires c =
     in let size = ap (λ (x : Header). x.size) pr.2
     in let offset = ap (λ (x : Header). x.offset) pr.2
     in let go = subst (λ (o : ℕ). Ready b (o + 24 * c.args.j)) (sym offset) (ready b s pr.0 c.args.j f at.0 w (omega (arith, size)))
-    in ((c.requires.1, (go.ends, go.below)), ((tables b f).ends, go.fits))
+    in record { kept = (c.requires.1, (go.ends, go.below)); b_in_bounds = ((tables b f).ends, go.fits) }
 
 pub returns-in-None : goal.returns-in-None
 returns-in-None c = sym (ap (λ (o : Option Body). told_relocation o c.args.j) (shown_none c.args.b.now c.args.s c.in-None.ensures))

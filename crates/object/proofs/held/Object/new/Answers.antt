@@ -16,10 +16,16 @@ pub invariant_of-result : goal.invariant_of-result
 invariant_of-result c =
     let e : vec_items c.new.result ≡ [] = c.new.ensures.items
     in let k = none_kept (vec_items c.new.result) e
-    in (
-      none_held (vec_items c.new.result) e,
-      (k.from_right, (k.number_right, (k.parts_right, (k.significant_right, (k.listed_right, (k.few_roots, (k.roots_right, tt))))))),
-    )
+    in record {
+      met = none_held (vec_items c.new.result) e;
+      begun = k.from_right;
+      counted = k.number_right;
+      parted = k.parts_right;
+      signed = k.significant_right;
+      marked = k.listed_right;
+      few = k.few_roots;
+      rooted = k.roots_right;
+    }
 
 pub returns : goal.returns
 returns c = ap meaning c.new.ensures.items ∙ none_means

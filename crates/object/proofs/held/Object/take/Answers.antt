@@ -36,10 +36,16 @@ invariant_of-self c =
     in let x = c.in_ok-notes.notes
     in let w = subst (λ (y : List ℕ). Ends y (checks y) (Ok x)) c.as_slice.ensures.value c.in_ok-notes.ensures
     in let k = kept_from b x w.1
-    in (
-      read_held b w.0,
-      (k.from_right, (k.number_right, (k.parts_right, (k.significant_right, (k.listed_right, (k.few_roots, (k.roots_right, tt))))))),
-    )
+    in record {
+      met = read_held b w.0;
+      begun = k.from_right;
+      counted = k.number_right;
+      parted = k.parts_right;
+      signed = k.significant_right;
+      marked = k.listed_right;
+      few = k.few_roots;
+      rooted = k.roots_right;
+    }
 
 pub returns : goal.returns
 returns c =
