@@ -1,10 +1,9 @@
 -- Lists of checks: the laws of the verdict, and the steps of a loop that looks for the first fault.
-use Rattle.std.proofs.Common.{◌≡◌, ℕ, zero, suc, ◌+◌, ◌<◌, ◌≤◌, Bool, true, false, cond, ◌&&◌, ◌⊎◌, List, [], ◌∷◌, ◌++◌, length, take, Some, None, Ok, Err, Option, Result, sym, refl, ap, ◌∙◌, inl, inr, add-one, arith}
-use Rattle.std.specs.List.{slice_get}
+use Rattle.std.proofs.Common.{◌≡◌, ℕ, zero, suc, ◌+◌, ◌<◌, Bool, true, false, cond, ◌&&◌, ◌⊎◌, List, [], ◌∷◌, ◌++◌, take, Some, None, Ok, Err, Option, refl, ◌∙◌, inl, inr, add-one, arith}
 use Rattle.std.proofs.lemmas.Bool.{cases_eq, and_parts, and_from}
 use Rattle.fault.specs.declared.Fault.{Fault}
-use Rattle.checklist.specs.Checks.{Check, first_fault, all_hold, each, where_holds, answer}
-use Rattle.checklist.specs.Laws.{Breaks, Verdict, Verdicts}
+use Rattle.checklist.specs.Checks.{Check, first_fault, all_hold, each, answer}
+use Rattle.checklist.specs.Laws.{Breaks, Verdicts}
 
 -- what the answers of a reader say of its verdict
 pub ok_none : {A : Type 0} (o : Option Fault) (x y : A) → Ok x ≡ answer o y → (o ≡ None) × (x ≡ y)

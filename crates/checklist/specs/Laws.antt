@@ -1,5 +1,5 @@
 -- What the verdict of a list of checks tells.
-use Rattle.std.specs.Prelude.{◌≡◌, ℕ, ◌<◌, true, false, List, length, take, Some, None}
+use Rattle.std.specs.Prelude.{◌≡◌, ℕ, true, false, List, take, Some, None}
 use Rattle.std.specs.List.{slice_get}
 use Rattle.fault.specs.declared.Fault.{Fault}
 use Rattle.checklist.specs.Checks.{Check, first_fault, all_hold}

@@ -1,5 +1,5 @@
 -- Where the parts of an ELF64 object stand, and what their fields say. What lies past the end reads as 0.
-use Rattle.std.specs.Prelude.{ℕ, zero, suc, ◌+◌, ◌*◌, ◌/◌, ◌%◌, ◌^◌, Bool, false, cond, not, ◌&&◌, ◌||◌, List, ◌==◌, bit_and}
+use Rattle.std.specs.Prelude.{ℕ, zero, suc, ◌+◌, ◌*◌, ◌/◌, ◌%◌, ◌^◌, Bool, false, not, ◌&&◌, ◌||◌, List, ◌==◌, bit_and}
 use Rattle.field.specs.Fields.{half, word, long, signed}
 use Rattle.elf.specs.declared.Header.{Header}
 use Rattle.elf.specs.declared.Symbol.{Symbol}

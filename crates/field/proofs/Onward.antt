@@ -1,13 +1,13 @@
 -- A number that is read byte by byte is the number that the bytes begin with.
-use Rattle.std.proofs.Common.{◌≡◌, ℕ, zero, suc, ◌+◌, ◌-◌, ◌*◌, ◌%◌, ◌^◌, ◌<◌, ◌≤◌, min, Bool, true, false, cond, ◌&&◌, ltb, leb, ◌⊎◌, List, [], ◌∷◌, length, get_or, drop, Some, None, Ok, Err, Option, Result, sym, refl, ap, ◌∙◌, inl, inr, mod-eq_of_lt, mul_assoc, mul_comm, mul-add, arith}
-use Rattle.std.proofs.lemmas.Bool.{cases_lt, lt-ltb, le-ltb, le-leb, lt-leb, and_left, and_right}
+use Rattle.std.proofs.Common.{◌≡◌, ℕ, zero, suc, ◌+◌, ◌-◌, ◌*◌, ◌%◌, ◌^◌, ◌<◌, ◌≤◌, min, Bool, true, false, cond, ltb, leb, ◌⊎◌, List, [], ◌∷◌, length, get_or, drop, Some, None, Ok, Err, Option, Result, sym, refl, ap, ◌∙◌, inl, inr, mul-add, arith}
+use Rattle.std.proofs.lemmas.Bool.{cases_lt, lt-ltb, le-ltb, le-leb, lt-leb, and_left}
 use Rattle.std.proofs.lemmas.Nat.{mul-le}
 use Rattle.std.proofs.lemmas.List.{drop_more}
 use Rattle.fault.specs.declared.Fault.{Fault}
 use Rattle.field.specs.declared.Number.{Number}
 use Rattle.field.specs.declared.Gathered.{Gathered}
 use Rattle.field.specs.declared.Gathered.TheVariants.{More, Whole}
-use Rattle.field.specs.Uleb.{behind, decoded, misshapen, limited, number_at, with_digit, gathered_from, gathered, none_yet}
+use Rattle.field.specs.Uleb.{behind, decoded, misshapen, limited, number_at, with_digit, gathered_from, gathered}
 
 -- k digits with the value v in front of the number that the later bytes tell
 abbrev pub prefixed : ℕ → ℕ → Option Number → Option Number

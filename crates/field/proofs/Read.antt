@@ -1,7 +1,6 @@
 -- What a field that was read is.
-use Rattle.std.proofs.Common.{◌≡◌, ℕ, ◌+◌, ◌≤◌, Bool, true, false, cond, leb, List, length, Ok, Err, Result, arith}
+use Rattle.std.proofs.Common.{◌≡◌, ℕ, ◌+◌, ◌≤◌, Bool, true, false, cond, leb, List, length, Ok, Err, arith}
 use Rattle.std.proofs.lemmas.Bool.{le-leb}
-use Rattle.fault.specs.declared.Fault.{Fault}
 use Rattle.field.specs.Fields.{within, short}
 
 pub read_is : {A : Type 0} (b : List ℕ) (p size : ℕ) (x y : A) → Ok x ≡ within b p size y → x ≡ y

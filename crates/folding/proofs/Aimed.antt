@@ -1,15 +1,14 @@
 -- Relocations with their targets put elsewhere.
-use Rattle.std.proofs.Common.{◌≡◌, ℕ, ◌^◌, ◌<◌, List, [], ◌∷◌, map, length, ℤ, ◌≤ℤ◌, Some, None, Option, sym, refl, ap, ◌∙◌, subst}
+use Rattle.std.proofs.Common.{◌≡◌, ℕ, ◌^◌, ◌<◌, List, [], ◌∷◌, map, length, ℤ, ◌≤ℤ◌, Some, None, Option, sym, refl, ap, subst}
 use Rattle.std.specs.Option.{option_map}
-use Rattle.std.specs.List.{AllByRecursion}
 use Rattle.std.proofs.lemmas.List.{length-map}
 use Rattle.std.proofs.ByRecursion.{All-map, All-weaker}
 use Rattle.model.specs.declared.Target.{Target}
 use Rattle.model.specs.declared.Target.TheVariants.{Section, Outside}
 use Rattle.model.specs.declared.Relocation.{Relocation}
-use Rattle.model.specs.Graph.{Body, Graph}
+use Rattle.model.specs.Graph.{Body}
 use Rattle.model.specs.Laws.{Aimed, highest, LawfulRelocation, LawfulBody}
-use Rattle.unfolding.specs.Depth.{Told, section, outside, Arm, Shape, told_map, arm_map, shape_map}
+use Rattle.unfolding.specs.Depth.{told_map, arm_map, shape_map}
 use Rattle.unfolding.specs.Telling.{Telling, Lawful, told_target, arm, seen}
 use Rattle.unfolding.specs.Groups.{aimed_at, aimed, moved}
 

@@ -1,19 +1,19 @@
 -- Folding keeps reachedness.
-use Rattle.std.proofs.Common.{◌≡◌, ℕ, List, map, length, Some, None, Option, sym, refl, ap, ◌∙◌, subst, arith}
+use Rattle.std.proofs.Common.{◌≡◌, ℕ, length, Some, None, Option, sym, refl, ap, ◌∙◌, subst, arith}
 use Rattle.std.specs.Option.{option_map}
 use Rattle.model.specs.declared.Target.{Target}
-use Rattle.model.specs.declared.Target.TheVariants.{Section, Outside}
+use Rattle.model.specs.declared.Target.TheVariants.{Section}
 use Rattle.model.specs.declared.Relocation.{Relocation}
-use Rattle.model.specs.Graph.{Body, Graph, Present, section_of, told_relocation, root_of, relocation_of}
+use Rattle.model.specs.Graph.{Body, Graph, Present, section_of, told_relocation, relocation_of}
 use Rattle.model.specs.Laws.{Aimed, LawfulRelocation, Valid}
 use Rattle.steps.proofs.Nth.{nth_map_some, all_at}
-use Rattle.unfolding.specs.Telling.{Telling, Lawful, AlikeBy}
+use Rattle.unfolding.specs.Telling.{Telling, Lawful}
 use Rattle.unfolding.specs.Groups.{rep_by, aimed_at, aimed, moved, folded_by}
 use Rattle.unfolding.specs.Reach.{Reached, root, step}
 use Rattle.unfolding.specs.Sections.{AllReached}
 use Rattle.unfolding.proofs.Classes.{rep_alike, rep_rep}
 use Rattle.folding.proofs.Folded.{folded_stays, folded_roots, folded_present, rep_joins}
-use Rattle.folding.proofs.Follow.{Followed, follow}
+use Rattle.folding.proofs.Follow.{follow}
 
 -- relocation j of a section whose relocations were put elsewhere
 pub aimed_relocation :

@@ -1,13 +1,13 @@
 -- Sections that are alike have alike targets, relocation by relocation.
-use Rattle.std.proofs.Common.{◌≡◌, ℕ, zero, suc, List, [], ◌∷◌, map, Some, None, Option, sym, refl, ap, ◌∙◌, subst, arith}
+use Rattle.std.proofs.Common.{◌≡◌, ℕ, zero, suc, List, [], ◌∷◌, map, Some, None, Option, refl, subst, arith}
 use Rattle.std.specs.List.{slice_get}
 use Rattle.model.specs.declared.Target.{Target}
 use Rattle.model.specs.declared.Target.TheVariants.{Section, Outside}
 use Rattle.model.specs.declared.Relocation.{Relocation}
 use Rattle.model.specs.Graph.{Body, Graph, section_of, told_relocation, relocation_of}
-use Rattle.unfolding.specs.Depth.{Told, section, outside, Arm, Shape, Look, unfolding_at}
+use Rattle.unfolding.specs.Depth.{section, unfolding_at}
 use Rattle.unfolding.specs.Telling.{Telling, told_target, arm, arms_in, look, AgreeBy, AlikeBy}
-use Rattle.unfolding.proofs.Shapes.{ToldRel, ArmsRel, ShapeRel, shape_to}
+use Rattle.unfolding.proofs.Shapes.{ToldRel, ArmsRel, shape_to}
 
 -- relocations related one by one, at a place
 

@@ -1,12 +1,11 @@
 -- The test `reached` decides which sections a chain from a root reaches.
-use Rattle.std.proofs.Common.{◌≡◌, ℕ, zero, suc, ◌<◌, ◌≤◌, Bool, true, false, ◌&&◌, ◌||◌, eqb, ◌⊎◌, List, [], ◌∷◌, get_or, is_some, Some, None, Decides, Option, sym, refl, ap, ◌∙◌, subst, inl, inr, ⊎_elim, arith}
+use Rattle.std.proofs.Common.{◌≡◌, ℕ, zero, suc, ◌<◌, ◌≤◌, Bool, true, false, ◌&&◌, eqb, List, [], ◌∷◌, is_some, Some, None, Decides, Option, sym, refl, ap, ◌∙◌, subst, ⊎_elim, arith}
 use Rattle.std.specs.List.{slice_get}
 use Rattle.std.proofs.lemmas.Bool.{cases_lt, both_ways, or_cases, or_left, or_right, and_parts, and_from, eqb-true, eq-eqb}
-use Rattle.std.proofs.lemmas.List.{get_or_past}
 use Rattle.model.specs.declared.Target.{Target}
 use Rattle.model.specs.declared.Target.TheVariants.{Section, Outside}
 use Rattle.model.specs.declared.Relocation.{Relocation}
-use Rattle.model.specs.Graph.{Body, Graph, Present, section_of, count_of, told_relocation, root_of, relocation_of}
+use Rattle.model.specs.Graph.{Body, Graph, Present, section_of, count_of, told_relocation, relocation_of}
 use Rattle.steps.specs.Below.{some_below}
 use Rattle.steps.proofs.Below.{some_decides, table_at, table_past}
 use Rattle.steps.proofs.Count.{rising}

@@ -1,22 +1,22 @@
 -- The swept graph.
-use Rattle.std.proofs.Common.{◌≡◌, ℕ, zero, suc, ◌+◌, ◌<◌, ◌≤◌, Bool, true, false, cond, not, ◌&&◌, List, [], ◌∷◌, map, length, is_some, Some, None, Option, sym, refl, ap, ◌∙◌, subst, ⊎_elim, arith}
-use Rattle.std.specs.List.{slice_get, AllByRecursion}
+use Rattle.std.proofs.Common.{◌≡◌, ℕ, zero, suc, ◌+◌, ◌≤◌, Bool, true, false, cond, ◌&&◌, List, [], ◌∷◌, map, length, is_some, Some, None, Option, sym, refl, ap, ◌∙◌, subst, ⊎_elim, arith}
+use Rattle.std.specs.List.{slice_get}
 use Rattle.std.proofs.lemmas.Bool.{cases_lt, both_ways, cond-true, cond-false}
 use Rattle.std.proofs.lemmas.List.{get_or_past}
 use Rattle.model.specs.declared.Target.{Target}
 use Rattle.model.specs.declared.Target.TheVariants.{Section, Outside}
 use Rattle.model.specs.declared.Relocation.{Relocation}
-use Rattle.model.specs.Graph.{Body, Graph, Present, section_of, count_of, told_relocation, root_of, relocation_of}
+use Rattle.model.specs.Graph.{Body, Graph, Present, section_of, count_of, told_relocation}
 use Rattle.model.specs.Laws.{Aimed, LawfulRelocation, LawfulBody, Valid}
 use Rattle.steps.specs.Below.{count_below}
 use Rattle.steps.proofs.Count.{count_parts, count_same}
 use Rattle.steps.proofs.Nth.{all_at, all_from}
-use Rattle.unfolding.specs.Depth.{Shape, unfolding_at, shape_map}
+use Rattle.unfolding.specs.Depth.{unfolding_at, shape_map}
 use Rattle.unfolding.specs.Telling.{Telling, told_target, arm, arms_in, seen, look, AlikeBy}
 use Rattle.unfolding.specs.Groups.{present, present_count, ApartBy}
 use Rattle.unfolding.specs.Reach.{Reached, root, step, reached, swept_section, swept, dropped}
 use Rattle.unfolding.specs.Sections.{AllReached}
-use Rattle.unfolding.proofs.Shapes.{ToldRel, ArmsRel, ShapeRel, shape_from}
+use Rattle.unfolding.proofs.Shapes.{ToldRel, ArmsRel, shape_from}
 use Rattle.unfolding.proofs.Marks.{present_bound}
 use Rattle.folding.proofs.Rebuilt.{rebuilt_at, rebuilt_length, rebuilt_same}
 use Rattle.folding.proofs.Reach.{reached_decides}

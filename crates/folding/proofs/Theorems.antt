@@ -1,11 +1,10 @@
 -- The theorems at what unfoldings tell by the rules.
-use Rattle.std.proofs.Common.{◌≡◌, is_some, refl, subst}
+use Rattle.std.proofs.Common.{refl, subst}
 use Rattle.model.specs.Graph.{Graph, Present}
-use Rattle.model.specs.Laws.{Valid}
 use Rattle.unfolding.specs.Reach.{swept}
 use Rattle.unfolding.specs.Sections.{rules, folded, Apart, AllReached}
 use Rattle.unfolding.proofs.Rules.{lawful_rules}
-use Rattle.folding.specs.Theorems.{Folds, FoldFolds, FoldValid, ReachDecided, Sweeps, SweepSweeps, SweepValid, FoldKeepsReached, SweepKeepsApart, Settled, Finished, BothFinish}
+use Rattle.folding.specs.Theorems.{FoldFolds, FoldValid, ReachDecided, SweepSweeps, SweepValid, FoldKeepsReached, SweepKeepsApart, Settled, Finished, BothFinish}
 use Rattle.folding.proofs.Folded as fold
 use Rattle.folding.proofs.Swept as sweep
 use Rattle.folding.proofs.Reach.{reached_decides}

@@ -1,18 +1,18 @@
 -- Every table is accepted: its rows come in the order that the reader asks for.
-use Rattle.std.proofs.Common.{◌≡◌, ℕ, zero, suc, ◌+◌, ◌-◌, ◌<◌, ◌≤◌, min, Bool, true, false, cond, ◌&&◌, eqb, ltb, leb, List, [], ◌∷◌, ◌++◌, length, get_or, take, drop, Some, None, Option, sym, refl, ap, ◌∙◌, subst, add-zero, add-suc, arith}
+use Rattle.std.proofs.Common.{◌≡◌, ℕ, zero, suc, ◌+◌, ◌-◌, ◌<◌, ◌≤◌, min, Bool, true, cond, eqb, List, [], ◌∷◌, length, take, drop, Some, None, Option, sym, refl, ap, ◌∙◌, arith}
 use Rattle.std.specs.List.{AllByRecursion}
 use Rattle.std.proofs.lemmas.List.{length-take, length-drop}
 use Rattle.std.proofs.ByRecursion.{All-from_get_or, All-weaker}
-use Rattle.std.proofs.lemmas.Bool.{eq-eqb, lt-ltb, le-leb, and_from, cond-true}
+use Rattle.std.proofs.lemmas.Bool.{eq-eqb, lt-ltb, le-leb, and_from}
 use Rattle.model.specs.declared.Relocation.{Relocation}
-use Rattle.model.specs.Graph.{Body, Graph, record_in, section_of}
-use Rattle.model.specs.Laws.{LawfulRelocation, LawfulBody, ValidWhere}
-use Rattle.row.specs.Entry.{Entry, header, section, bytes, relocation, root, end}
+use Rattle.model.specs.Graph.{Body, Graph, section_of}
+use Rattle.model.specs.Laws.{LawfulBody}
+use Rattle.row.specs.Entry.{Entry, end}
 use Rattle.layout.specs.declared.Due.{Due}
 use Rattle.layout.specs.declared.State.{State}
 use Rattle.layout.specs.declared.State.TheVariants.{Start, Open, Done}
-use Rattle.layout.specs.Layout.{with_bytes, with_relocations, with_section, with_sections, with_roots, present_count, entries, Formed, Free}
-use Rattle.layout.specs.Order.{run, run_on, step, after_bytes, after_section}
+use Rattle.layout.specs.Layout.{with_bytes, with_relocations, with_sections, with_roots, present_count, entries, Formed, Free}
+use Rattle.layout.specs.Order.{run, run_on}
 
 abbrev pub due : (n next seen roots size bytes relocations : ℕ) → Due
 due n x s r z b q =

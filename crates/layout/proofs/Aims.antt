@@ -1,5 +1,5 @@
 -- A graph keeps all laws exactly when its rows do, and none of them names an absent section.
-use Rattle.std.proofs.Common.{◌≡◌, ℕ, zero, suc, ◌+◌, ◌^◌, ◌<◌, ◌≤◌, Bool, true, false, cond, not, ◌⊎◌, List, [], ◌∷◌, ◌++◌, length, get_or, take, drop, is_some, Some, None, Option, sym, refl, ap, ◌∙◌, subst, inl, inr, arith}
+use Rattle.std.proofs.Common.{◌≡◌, ℕ, zero, suc, ◌<◌, ◌≤◌, true, false, not, ◌⊎◌, List, [], ◌∷◌, length, get_or, drop, is_some, Some, None, Option, refl, ap, subst, inl, inr, arith}
 use Rattle.std.specs.List.{AllByRecursion}
 use Rattle.std.proofs.lemmas.List.{get_or_past}
 use Rattle.std.proofs.ByRecursion.{All-from_get_or, All-get_or, All-weaker}
@@ -8,9 +8,9 @@ use Rattle.model.specs.declared.Relocation.{Relocation}
 use Rattle.model.specs.declared.Target.{Target}
 use Rattle.model.specs.declared.Target.TheVariants.{Section, Outside}
 use Rattle.model.specs.Graph.{Body, Graph, Present, section_of}
-use Rattle.model.specs.Laws.{Aimed, LawfulRelocation, LawfulBody, ValidWhere, Valid}
-use Rattle.row.specs.Entry.{Entry, header, section, bytes, relocation, root, end}
-use Rattle.layout.specs.Layout.{with_bytes, with_relocations, with_section, with_sections, with_roots, present_count, entries, Formed, Free}
+use Rattle.model.specs.Laws.{Aimed, LawfulRelocation, LawfulBody, Valid}
+use Rattle.row.specs.Entry.{Entry, end}
+use Rattle.layout.specs.Layout.{with_bytes, with_relocations, with_sections, with_roots, entries, Formed, Free}
 use Rattle.layout.specs.Reading.{aimed, named, absent_in}
 
 -- the section that a row names, if any, is present

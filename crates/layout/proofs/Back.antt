@@ -1,12 +1,12 @@
 -- The rows of a graph tell that graph.
-use Rattle.std.proofs.Common.{◌≡◌, ℕ, zero, suc, ◌+◌, ◌<◌, ◌≤◌, List, [], ◌∷◌, ◌++◌, length, take, drop, Some, None, Option, sym, refl, ap, ◌∙◌, subst, arith}
+use Rattle.std.proofs.Common.{◌≡◌, ℕ, zero, suc, ◌≤◌, List, [], ◌∷◌, ◌++◌, length, take, drop, Some, None, Option, sym, refl, ap, ◌∙◌, arith}
 use Rattle.std.specs.List.{AllByRecursion}
 use Rattle.std.proofs.lemmas.List.{append_assoc, append-nil, length-drop, take-append-drop}
 use Rattle.std.proofs.ByRecursion.{All-weaker}
 use Rattle.std.proofs.lemmas.Bool.{eq-eqb, ne_eqb, cond-true, cond-false}
 use Rattle.model.specs.declared.Relocation.{Relocation}
 use Rattle.model.specs.Graph.{Body, Graph, record_in}
-use Rattle.row.specs.Entry.{Entry, header, section, bytes, relocation, root, end}
+use Rattle.row.specs.Entry.{Entry, section, bytes, relocation, root, end}
 use Rattle.layout.specs.Layout.{with_bytes, with_relocations, with_section, with_sections, with_roots, present_count, entries}
 use Rattle.layout.specs.Order.{parts, Parts, told_by, placed, graph_in}
 

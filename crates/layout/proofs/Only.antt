@@ -1,19 +1,19 @@
 -- Only tables are accepted: rows that come in order are those of the graph that they tell.
-use Rattle.std.proofs.Common.{◌≡◌, ℕ, zero, suc, ◌+◌, ◌-◌, ◌^◌, ◌<◌, ◌≤◌, min, Bool, true, false, cond, ◌&&◌, eqb, ltb, leb, ◌⊎◌, List, [], ◌∷◌, ◌++◌, length, get_or, take, drop, Some, None, Option, sym, refl, ap, ◌∙◌, subst, inl, inr, arith}
+use Rattle.std.proofs.Common.{◌≡◌, ℕ, zero, suc, ◌+◌, ◌-◌, ◌^◌, ◌<◌, ◌≤◌, min, Bool, true, false, cond, ◌&&◌, eqb, ltb, leb, ◌⊎◌, List, [], ◌∷◌, ◌++◌, length, take, drop, Some, None, sym, refl, ap, ◌∙◌, subst, inl, inr, arith}
 use Rattle.std.specs.List.{AllByRecursion}
-use Rattle.std.proofs.lemmas.List.{length-take, length-drop, length-append, append-nil, take_at, take_all, drop_at, drop_all, nil_from_length}
+use Rattle.std.proofs.lemmas.List.{length-drop, length-append, append-nil, take_at, take_all, drop_at, drop_all, nil_from_length}
 use Rattle.std.proofs.ByRecursion.{All-append}
 use Rattle.std.proofs.lemmas.Bool.{eqb-true, ltb-true, leb-true, and_parts, cases_lt}
 use Rattle.model.specs.declared.Relocation.{Relocation}
 use Rattle.model.specs.declared.Record.{Record}
-use Rattle.model.specs.Graph.{Body, Graph, record_in, section_of}
-use Rattle.model.specs.Laws.{LawfulRelocation, LawfulBody, ValidWhere}
-use Rattle.row.specs.Entry.{Entry, header, section, bytes, relocation, root, end, Ranged, RangedRecord}
+use Rattle.model.specs.Graph.{Body, record_in}
+use Rattle.model.specs.Laws.{LawfulRelocation, LawfulBody}
+use Rattle.row.specs.Entry.{Entry, header, section, bytes, relocation, root, end, Ranged}
 use Rattle.layout.specs.declared.Due.{Due}
 use Rattle.layout.specs.declared.State.{State}
 use Rattle.layout.specs.declared.State.TheVariants.{Start, Open, Done}
-use Rattle.layout.specs.Layout.{with_bytes, with_relocations, with_section, with_sections, with_roots, present_count, entries, Formed, Free}
-use Rattle.layout.specs.Order.{run, run_on, step, settled, after_bytes, after_section, after_relocation, after_root, opened, parts, Parts, body_of, placed, graph_in, announced}
+use Rattle.layout.specs.Layout.{with_bytes, with_relocations, with_sections, with_roots, present_count, entries, Formed, Free}
+use Rattle.layout.specs.Order.{run, run_on, settled, after_bytes, after_section, after_relocation, after_root, opened, parts, Parts, body_of, placed, graph_in}
 use Rattle.layout.proofs.Placed.{Ascending, ascending_none, with_pairs, length_placed, placed_rows, placed_all}
 
 -- a relocation that only its section's size bounds further

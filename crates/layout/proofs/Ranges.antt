@@ -1,13 +1,13 @@
 -- The numbers of a table's rows are in their ranges.
-use Rattle.std.proofs.Common.{◌≡◌, ℕ, zero, suc, ◌+◌, ◌^◌, ◌<◌, ◌≤◌, List, [], ◌∷◌, ◌++◌, length, get_or, take, drop, Some, None, Option, sym, refl, ap, ◌∙◌, subst, arith}
+use Rattle.std.proofs.Common.{◌≡◌, ℕ, zero, suc, ◌+◌, ◌^◌, ◌<◌, ◌≤◌, List, [], ◌∷◌, length, take, drop, Some, None, Option, refl, arith}
 use Rattle.std.specs.List.{AllByRecursion}
 use Rattle.std.proofs.lemmas.List.{length-take}
 use Rattle.std.proofs.ByRecursion.{All-take, All-drop, All-from_get_or}
 use Rattle.model.specs.declared.Relocation.{Relocation}
-use Rattle.model.specs.Graph.{Body, Graph, record_in, section_of}
+use Rattle.model.specs.Graph.{Body, Graph, section_of}
 use Rattle.model.specs.Laws.{LawfulRelocation, LawfulBody}
-use Rattle.row.specs.Entry.{Entry, header, section, bytes, relocation, root, end, Ranged}
-use Rattle.layout.specs.Layout.{with_bytes, with_relocations, with_section, with_sections, with_roots, present_count, entries, Formed, Free}
+use Rattle.row.specs.Entry.{Entry, Ranged}
+use Rattle.layout.specs.Layout.{with_bytes, with_relocations, with_sections, with_roots, present_count, entries, Formed, Free}
 
 ranged_bytes : (k : ℕ) (bs : List ℕ) (rest : List Entry) → AllByRecursion (λ b. b < 2 ^ 8) bs → AllByRecursion Ranged rest → AllByRecursion Ranged (with_bytes k bs rest)
 ranged_bytes zero bs rest h r = r

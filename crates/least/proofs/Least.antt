@@ -1,5 +1,5 @@
 -- Each present section is followed into the other graph, from the root along the same relocations; no two come to the same.
-use Rattle.std.proofs.Common.{◌≡◌, ℕ, ◌<◌, ◌≤◌, true, Some, None, Option, sym, refl, ap, ◌∙◌, subst}
+use Rattle.std.proofs.Common.{◌≡◌, ℕ, ◌≤◌, Some, sym, ◌∙◌}
 use Rattle.model.specs.Graph.{Graph, Present, count_of, root_of, root_count_of}
 use Rattle.steps.proofs.Count.{count_injection}
 use Rattle.steps.proofs.Nth.{nth_there}
@@ -8,7 +8,7 @@ use Rattle.unfolding.specs.Groups.{present, present_count, ApartBy}
 use Rattle.unfolding.specs.Reach.{Reached, root, step}
 use Rattle.unfolding.specs.Sections.{AllReached}
 use Rattle.unfolding.proofs.Marks.{kinds_present, present_bound, agree_kinds}
-use Rattle.folding.proofs.Follow.{Followed, follow}
+use Rattle.folding.proofs.Follow.{follow}
 
 -- alike sections are present together
 pub alike_present :

@@ -1,14 +1,12 @@
 -- The theorems at what unfoldings tell by the rules.
-use Rattle.std.proofs.Common.{◌≡◌, ℕ, ◌≤◌, Some, sym, refl, ap, ◌∙◌, subst, arith}
+use Rattle.std.proofs.Common.{◌≡◌, ℕ, Some, sym, refl, ◌∙◌, subst, arith}
 use Rattle.model.specs.Graph.{Graph, root_of, root_count_of}
-use Rattle.model.specs.Laws.{Valid}
 use Rattle.steps.proofs.Nth.{nth_there}
-use Rattle.unfolding.specs.Groups.{present_count}
-use Rattle.unfolding.specs.Reach.{Reached, root, swept}
+use Rattle.unfolding.specs.Reach.{root, swept}
 use Rattle.unfolding.specs.Sections.{Agree, Alike, rules, rep, folded}
 use Rattle.unfolding.proofs.Rules.{lawful_rules}
 use Rattle.folding.proofs.Folded.{folded_roots, folded_root_count, folded_alike}
-use Rattle.folding.proofs.Swept.{swept_alike, swept_reached}
+use Rattle.folding.proofs.Swept.{swept_alike}
 use Rattle.folding.proofs.Theorems as folding
 use Rattle.least.specs.Theorems.{AlikeRoots, Least, FinishLeast, OrdersAgree}
 use Rattle.least.proofs.Least as least

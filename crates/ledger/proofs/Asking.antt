@@ -1,9 +1,9 @@
 -- What the pile answers, from what the graph below answers.
-use Rattle.std.proofs.Common.{◌≡◌, ℕ, zero, suc, ◌+◌, ◌-◌, ◌<◌, ◌≤◌, Bool, true, false, cond, ltb, leb, List, [], ◌∷◌, ◌++◌, map, length, get_or, is_some, Some, None, Ok, Err, Option, sym, refl, ap, ◌∙◌, subst, ⊎_elim, arith}
+use Rattle.std.proofs.Common.{◌≡◌, ℕ, zero, suc, ◌+◌, ◌-◌, ◌<◌, ◌≤◌, Bool, true, false, cond, ltb, leb, List, [], ◌∷◌, ◌++◌, map, length, get_or, is_some, Some, None, Ok, Err, Option, sym, refl, ap, ◌∙◌, ⊎_elim, arith}
 use Rattle.std.specs.Option.{option_map}
 use Rattle.std.specs.List.{slice_get}
-use Rattle.std.proofs.lemmas.Bool.{cases_lt, cases_eq, lt-ltb, le-ltb, le-leb, cond-true, cond-false}
-use Rattle.std.proofs.lemmas.List.{length-map, length_push, get_or_append_left, get_or_push}
+use Rattle.std.proofs.lemmas.Bool.{cases_lt, lt-ltb, le-ltb, le-leb, cond-true, cond-false}
+use Rattle.std.proofs.lemmas.List.{length-map, get_or_append_left, get_or_push}
 use Rattle.std.proofs.lemmas.Option.{slice_get-get_or, slice_get_past}
 use Rattle.model.specs.declared.Setting.TheVariants.{Pinned}
 use Rattle.model.specs.declared.Target.{Target}
@@ -19,12 +19,12 @@ use Rattle.calls.specs.declared.Place.TheVariants.{Absent}
 use Rattle.runs.specs.Drawn.{as_pinned}
 use Rattle.runs.specs.Laws.{pinned_record}
 use Rattle.runs.specs.State.{no_section, slot_of, found_at, place_of}
-use Rattle.runs.specs.Seen.{found_number, left_of, seen_section, seen_through}
+use Rattle.runs.specs.Seen.{found_number, left_of, seen_section}
 use Rattle.runs.proofs.Seen.{seen_at}
 use Rattle.slots.specs.Turns.{untouched}
 use Rattle.ledger.specs.declared.Ledger.{Ledger}
 use Rattle.ledger.specs.Told.{bound_by, first, pinned, drawn_section, drawn_from, told}
-use Rattle.ledger.specs.Answers.{stands, seen_record, seen_byte, seen_target, seen_relocation, added_root, seen_root, placed}
+use Rattle.ledger.specs.Answers.{seen_record, seen_byte, seen_target, seen_relocation, added_root, seen_root, placed}
 use Rattle.ledger.proofs.Drawing.{aimed_twice, drawn_at, drawn_count, drawn_present, drawn_roots}
 use Rattle.ledger.proofs.Telling.{told_graph, roots_length, length_first}
 

@@ -4,11 +4,10 @@ use Rattle.std.specs.Option.{option_map}
 use Rattle.std.proofs.lemmas.Bool.{cases_lt, cases_eq, eq-eqb, ne_eqb, cond-true, cond-false}
 use Rattle.std.proofs.lemmas.List.{append-nil, ext_get_or, get_or-replicate, get_or_past, get_or-set_same, get_or-set_other, length-replicate}
 use Rattle.model.specs.declared.Target.{Target}
-use Rattle.model.specs.declared.Target.TheVariants.{Section, Outside}
 use Rattle.model.specs.declared.Relocation.{Relocation}
 use Rattle.model.specs.Graph.{Body, Graph, section_of, count_of}
 use Rattle.unfolding.specs.Groups.{aimed_at, aimed, present}
-use Rattle.folding.proofs.Rebuilt.{rebuilt_at, rebuilt_length, rebuilt_same}
+use Rattle.folding.proofs.Rebuilt.{rebuilt_at, rebuilt_length}
 use Rattle.runs.specs.Drawn.{bound_target, bind, as_pinned, pin, root}
 use Rattle.runs.proofs.Draws.{bind_at, bind_count, pin_at, pin_count}
 use Rattle.ledger.specs.declared.Ledger.{Ledger}

@@ -1,9 +1,9 @@
 -- What each change of the inner table means for the state, and that the state stays one that calls led to.
-use Rattle.std.proofs.Common.{◌≡◌, ℕ, zero, suc, ◌+◌, ◌-◌, ◌<◌, ◌≤◌, Bool, true, false, cond, not, ◌&&◌, ◌||◌, eqb, leb, List, [], ◌∷◌, ◌++◌, length, get_or, drop, set, replicate, Some, None, Option, sym, refl, ap, ◌∙◌, subst, ⊎_elim, add-one, arith}
+use Rattle.std.proofs.Common.{◌≡◌, ℕ, zero, suc, ◌+◌, ◌<◌, ◌≤◌, Bool, true, false, cond, not, ◌&&◌, ◌||◌, eqb, leb, List, [], ◌∷◌, ◌++◌, length, get_or, drop, replicate, None, Option, sym, refl, ap, ◌∙◌, subst, add-one, arith}
 use Rattle.std.proofs.lemmas.Bool.{or_parts, leb-false, not-false}
 use Rattle.std.proofs.lemmas.List.{length-append, length_push, length-set, length-replicate, same_lists}
 use Rattle.fault.specs.declared.Fault.{Fault}
-use Rattle.model.specs.Graph.{Graph, Present, count_of, root_count_of}
+use Rattle.model.specs.Graph.{Graph, count_of, root_count_of}
 use Rattle.model.specs.Laws.{Valid}
 use Rattle.steps.specs.Below.{count_below, table}
 use Rattle.steps.proofs.Below.{table_at, table_length}
@@ -17,25 +17,23 @@ use Rattle.calls.specs.declared.Slot.{Slot}
 use Rattle.calls.specs.declared.Slot.TheVariants.{Untouched, Folded, Swept}
 use Rattle.calls.specs.declared.Call.{Call}
 use Rattle.calls.specs.declared.Call.TheVariants.{Bind, Pin, Root, Sweep, Fold}
-use Rattle.calls.specs.declared.Answer.{Answer}
 use Rattle.calls.specs.declared.Answer.TheVariants.{Dropped, Merged}
 use Rattle.runs.specs.Drawn.{drawn_by}
 use Rattle.runs.specs.State.{State, start, closed_fault, no_section, bound_before, full, check, refusal, slot_of, slots_by, swept_slot, folded_slot, moved, unless, step, answer, run, after}
 use Rattle.runs.specs.Seen.{seen_through}
-use Rattle.runs.specs.Promise.{Promise}
 use Rattle.runs.specs.Laws.{Tells}
 use Rattle.runs.proofs.Slots.{slots_length}
 use Rattle.runs.proofs.Seen.{pile_seen, fresh_seen}
-use Rattle.runs.proofs.Steps.{passed, swept_present, folded_present, own}
+use Rattle.runs.proofs.Steps.{passed, swept_present, folded_present}
 use Rattle.runs.proofs.Telling.{pile_tells}
 use Rattle.runs.proofs.Promised.{promise_stands}
 use Rattle.slots.specs.declared.Slots.{Slots}
-use Rattle.slots.specs.Turns.{stays, drops, dropped_slot, leads, joins, joined_slot, Turned}
+use Rattle.slots.specs.Turns.{stays, drops, dropped_slot, leads, joins, joined_slot}
 use Rattle.ledger.specs.declared.Ledger.{Ledger}
 use Rattle.ledger.specs.Edits.{fresh, Bounds, with_bind, with_pin, with_root, shut, Shut}
 use Rattle.ledger.specs.Told.{first, drawn_from, told, Reachable, Kept}
 use Rattle.ledger.specs.Answers.{bind_refused, pin_refused, root_refused}
-use Rattle.ledger.proofs.Drawing.{first_more, drawn_count, drawn_present, drawn_roots, drawn_fresh, drawn_bind, drawn_pin, drawn_root}
+use Rattle.ledger.proofs.Drawing.{first_more, drawn_present, drawn_roots, drawn_fresh, drawn_bind, drawn_pin, drawn_root}
 
 -- the parts of the state
 

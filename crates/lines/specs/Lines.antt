@@ -1,5 +1,5 @@
 -- A text cut into its rows, and a reader that takes them one by one.
-use Rattle.std.specs.Prelude.{ℕ, zero, suc, ◌+◌, Bool, cond, List, [], ◌∷◌, ◌++◌, length, take, Some, None, Option, ◌==◌}
+use Rattle.std.specs.Prelude.{ℕ, suc, ◌+◌, Bool, cond, List, [], ◌∷◌, length, take, Some, None, Option, ◌==◌}
 use Rattle.std.specs.List.{flat_map}
 
 -- a byte before the first row

@@ -1,33 +1,31 @@
 -- The answers to the questions, from what is read and noted.
-use Rattle.std.proofs.Common.{◌≡◌, ℕ, zero, suc, ◌+◌, ◌-◌, ◌*◌, ◌/◌, ◌%◌, ◌^◌, ◌<◌, ◌≤◌, min, Bool, true, false, cond, not, ◌&&◌, ◌||◌, eqb, ltb, leb, ◌⊎◌, List, [], ◌∷◌, map, length, get_or, take, drop, replicate, is_some, Some, None, Ok, Err, Option, Result, sym, refl, ap, ◌∙◌, subst, inl, inr, arith}
-use Rattle.std.specs.List.{range_with_len, slice_get}
-use Rattle.std.proofs.lemmas.Bool.{cases_lt, cases_Bool, and_parts, and_cases, or_cases, eqb-true, eqb-false, eq-eqb, ne_eqb, ltb-true, ltb-false, lt-ltb, leb-true, leb-false, le-leb}
-use Rattle.std.proofs.lemmas.List.{get_or-replicate, get_or-map, get_or-take, get_or-drop, length-replicate, length-map, length-take, length-drop}
+use Rattle.std.proofs.Common.{◌≡◌, ℕ, ◌+◌, ◌*◌, ◌/◌, ◌<◌, ◌≤◌, Bool, true, false, cond, not, ◌&&◌, ltb, leb, ◌⊎◌, List, map, length, get_or, take, drop, replicate, is_some, Some, None, Ok, Err, Option, sym, refl, ap, ◌∙◌, subst, inl, inr, arith}
+use Rattle.std.specs.List.{slice_get}
+use Rattle.std.proofs.lemmas.Bool.{cases_lt, eq-eqb, ne_eqb, ltb-true, lt-ltb, leb-false}
+use Rattle.std.proofs.lemmas.List.{get_or-replicate, get_or-map, get_or-take, get_or-drop, length-replicate, length-take, length-drop}
 use Rattle.std.proofs.lemmas.List.FromFn.{get_or-map-range_with_len, length-map-range_with_len}
 use Rattle.std.proofs.lemmas.Option.{slice_get-get_or, slice_get_past}
 use Rattle.model.specs.declared.Record.{Record}
-use Rattle.model.specs.declared.Relocation.{Relocation}
 use Rattle.model.specs.declared.Setting.{Setting}
 use Rattle.model.specs.declared.Setting.TheVariants.{Foldable, Pinned}
-use Rattle.model.specs.Graph.{Body, section_of, told_record, told_byte, told_relocation, record_of, byte_of, relocation_of}
+use Rattle.model.specs.Graph.{section_of, told_record, record_of}
 use Rattle.elf.specs.declared.Header.{Header}
 use Rattle.elf.specs.Layout.{sections, section, present, plain, entry_at}
 use Rattle.rules.specs.Rules.{part, symbol}
 use Rattle.rules.specs.Listing.{significance, listed}
-use Rattle.rules.specs.Notes.{part_note, or_none, parts, marks, roots, listed_in}
+use Rattle.rules.specs.Notes.{part_note, or_none, listed_in}
 use Rattle.rules.specs.Listing.{listing}
 use Rattle.rules.specs.declared.Notes.{Notes}
-use Rattle.object.specs.Meaning.{flags_of, alignment_of, low, bytes_of, relocation_at, relocations_in, setting_of, body, told_section, meaning}
+use Rattle.object.specs.Meaning.{flags_of, alignment_of, low, bytes_of, relocation_at, relocations_in, setting_of, body, meaning}
 use Rattle.object.specs.Held.{held, header_of, shown, Kept}
 use Rattle.fault.specs.declared.Fault.{Fault}
 use Rattle.field.specs.Fields.{within, short}
 use Rattle.elf.specs.Layout.{place}
 use Rattle.rules.specs.Rules.{relocates}
 use Rattle.reading.proofs.Firsts.{first_where_is}
-use Rattle.object.specs.Facts.{Facts, held_facts, held_few, header_ends, Sound, sound, bytes_length, Whole, whole, Entered, entered, Tables, tables, value_within, inside}
+use Rattle.object.specs.Facts.{Facts, held_facts, held_few, header_ends, Sound, sound, bytes_length, Whole, entered, tables, value_within, inside}
 use Rattle.elf.specs.declared.Symbol.{Symbol}
 use Rattle.elf.specs.declared.Entry.{Entry}
-use Rattle.elf.specs.Layout.{outside}
 use Rattle.rules.specs.Rules.{symbols}
 use Rattle.object.specs.Held.{Told}
 use Rattle.object.specs.Lawful.{section_at, section_past, range_low, range_high}

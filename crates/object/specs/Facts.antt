@@ -1,23 +1,22 @@
 -- What is known of an object that was accepted.
-use Rattle.std.specs.Prelude.{◌≡◌, ℕ, zero, suc, ◌+◌, ◌-◌, ◌*◌, ◌/◌, ◌%◌, ◌^◌, ◌<◌, ◌≤◌, Bool, true, false, cond, not, ◌&&◌, ◌||◌, ◌⊎◌, List, [], ◌∷◌, ◌++◌, map, length, take, drop, replicate, ℤ, Some, None, Option, ◌==◌, ◌≢◌, nat_le, nat_lt, refl}
+use Rattle.std.specs.Prelude.{◌≡◌, ℕ, ◌+◌, ◌*◌, ◌/◌, ◌%◌, ◌^◌, ◌<◌, ◌≤◌, Bool, true, false, cond, not, ◌&&◌, ◌⊎◌, List, map, length, take, drop, replicate, Some, None, Option, ◌==◌, ◌≢◌, nat_le, nat_lt, refl}
 use Rattle.std.proofs.Common.{arith, sym, ap, subst, ◌∙◌, inl, inr}
-use Rattle.std.specs.List.{range_with_len}
-use Rattle.std.proofs.lemmas.Bool.{or_cases, eqb-true, eq-eqb, ne_eqb, and_parts, leb-true, ltb-true, cases_Bool, not-true, cases_lt, eqb-false, not_from_false}
+use Rattle.std.proofs.lemmas.Bool.{or_cases, eqb-true, and_parts, leb-true, ltb-true, not-true, eqb-false, not_from_false}
 use Rattle.std.proofs.lemmas.List.{nil_from_length, length-replicate, length-map, length-take, length-drop}
 use Rattle.field.specs.Fields.{half, long}
 use Rattle.checklist.specs.Checks.{Check, first_fault, all_hold, each, where_holds}
-use Rattle.checklist.proofs.Checks.{hold_left, hold_right, hold_each, passes, accepts}
+use Rattle.checklist.proofs.Checks.{hold_left, hold_right, hold_each, passes}
 use Rattle.elf.specs.declared.Header.{Header}
 use Rattle.elf.specs.declared.Symbol.{Symbol}
 use Rattle.elf.specs.declared.Entry.{Entry}
-use Rattle.elf.specs.Layout.{sections, place, section, present, apart, has, outside, aligned, symbol_at, entry_at}
+use Rattle.elf.specs.Layout.{sections, place, section, present, apart, has, outside, aligned, entry_at}
 use Rattle.rules.specs.declared.Pass.TheVariants.{Extents, Contents}
 use Rattle.rules.specs.declared.Part.{Part}
 use Rattle.rules.specs.Known.{Headed}
-use Rattle.rules.specs.Rules.{check, fault_at, head_rule, pass_rule, only_rule, content_checks, table_checks, table_rule, table_rule_of, table, symbols, symbols_of, symbol, symbol_rule, symbol_checks, valued, relocation_rule, part_checks, told_part, entry_rules, entry_rule, entry_checks, reached, in_range, part, relocates, relocating}
+use Rattle.rules.specs.Rules.{head_rule, pass_rule, only_rule, table_checks, table_rule, table_rule_of, table, symbols, symbols_of, symbol, symbol_rule, valued, relocation_rule, part_checks, told_part, entry_rules, entry_rule, reached, in_range, part, relocates, relocating}
 use Rattle.rules.specs.Verdict.{accepted, from_extents, from_contents, from_only_table, from_table, from_relocations, from_only_listing}
 use Rattle.reading.proofs.Firsts.{first_where_is, only_is, extent_is}
-use Rattle.reading.proofs.Parting.{Fit, passed}
+use Rattle.reading.proofs.Parting.{passed}
 use Rattle.reading.proofs.Ending.{headed}
 use Rattle.object.specs.Meaning.{bytes_of, low}
 use Rattle.object.specs.Held.{held}

@@ -1,28 +1,25 @@
 -- The section graph of an object keeps the laws.
-use Rattle.std.specs.Prelude.{◌≡◌, ℕ, zero, suc, ◌+◌, ◌-◌, ◌*◌, ◌/◌, ◌%◌, ◌^◌, ◌<◌, ◌≤◌, Bool, true, false, cond, not, ◌&&◌, ◌||◌, ◌⊎◌, List, [], ◌∷◌, map, length, take, drop, replicate, ℤ, pos, negsuc, ◌+ℤ◌, ◌≤ℤ◌, is_some, Some, None, filter, Option, ◌==◌, int_lt, slice_index_or, refl}
+use Rattle.std.specs.Prelude.{◌≡◌, ℕ, zero, suc, ◌+◌, ◌*◌, ◌/◌, ◌^◌, ◌<◌, ◌≤◌, Bool, true, false, cond, not, ◌||◌, ◌⊎◌, List, [], ◌∷◌, map, length, take, drop, replicate, ℤ, pos, negsuc, ◌+ℤ◌, ◌≤ℤ◌, is_some, Some, None, filter, Option, ◌==◌, int_lt, slice_index_or, refl}
 use Rattle.std.proofs.Common.{arith, sym, ap, subst, ◌∙◌, inl, inr}
-use Rattle.std.specs.Int.Bits.{bit_and}
 use Rattle.std.specs.List.{range_with_len, AllByRecursion}
-use Rattle.std.proofs.lemmas.Bool.{cases_lt, cases_Bool, cases_eq, and_parts, or_cases, eqb-true, eq-eqb, ne_eqb, not-true}
-use Rattle.std.proofs.lemmas.List.{get_or_past, length-replicate}
+use Rattle.std.proofs.lemmas.Bool.{cases_lt, and_parts, or_cases, eqb-true}
+use Rattle.std.proofs.lemmas.List.{get_or_past}
 use Rattle.std.proofs.lemmas.List.FromFn.{get_or-map-range_with_len, length-map-range_with_len, length-range_with_len, get_or-range_with_len}
-use Rattle.std.proofs.ByRecursion.{All-from_get_or, All-map, all_kept_by, kept_by_passes, All-get_or}
+use Rattle.std.proofs.ByRecursion.{All-from_get_or, All-map}
 use Rattle.std.proofs.lemmas.Int.{ints}
 use Rattle.std.proofs.lemmas.Nat.{pow_below}
 use Rattle.model.specs.declared.Target.TheVariants.{Section, Outside}
-use Rattle.model.specs.declared.Relocation.{Relocation}
-use Rattle.model.specs.Graph.{Body, Graph, Present, section_of}
-use Rattle.model.specs.Laws.{Alignment, LawfulRelocation, LawfulBody, ValidWhere, Valid, lowest, highest, Aimed}
+use Rattle.model.specs.Graph.{Body, Present, section_of}
+use Rattle.model.specs.Laws.{Alignment, LawfulRelocation, LawfulBody, Valid, lowest}
 use Rattle.elf.specs.declared.Header.{Header}
-use Rattle.elf.specs.declared.Symbol.{Symbol}
 use Rattle.elf.specs.declared.Entry.{Entry}
-use Rattle.elf.specs.Layout.{sections, section, present, outside, root, aligned, power_below, entry_at}
+use Rattle.elf.specs.Layout.{sections, section, present, outside, aligned, power_below, entry_at}
 use Rattle.elf.proofs.Powers.{power_of}
-use Rattle.rules.specs.Rules.{symbols, symbol, part, in_range, reached}
+use Rattle.rules.specs.Rules.{symbol, part, in_range}
 use Rattle.rules.specs.Notes.{roots, is_root}
-use Rattle.object.specs.Meaning.{flags_of, alignment_of, low, bytes_of, relocation_of_entry, relocation_at, relocations_in, body, told_section, meaning}
+use Rattle.object.specs.Meaning.{low, bytes_of, relocation_of_entry, relocation_at, relocations_in, body, told_section, meaning}
 use Rattle.object.specs.Held.{held}
-use Rattle.object.specs.Facts.{Facts, held_facts, held_few, Sound, sound, bytes_length, Whole, whole, Entered, entered, Tables, tables, value_within, inside}
+use Rattle.object.specs.Facts.{Facts, held_facts, held_few, sound, bytes_length, whole, Entered, entered, Tables, tables, value_within, inside}
 
 -- section s of the graph
 pub section_at : (b : List ℕ) (s : ℕ) → s < sections b → section_of (meaning b) s ≡ told_section b s

@@ -1,5 +1,5 @@
 -- The section graph of an object.
-use Rattle.std.specs.Prelude.{ℕ, ◌+◌, ◌-◌, ◌*◌, ◌/◌, ◌%◌, Bool, cond, not, ◌&&◌, List, [], map, take, drop, replicate, ℤ, pos, ◌+ℤ◌, is_some, Some, None, Option, ◌==◌, bit_and}
+use Rattle.std.specs.Prelude.{ℕ, ◌+◌, ◌-◌, ◌*◌, ◌/◌, ◌%◌, cond, not, ◌&&◌, List, [], map, take, drop, replicate, pos, ◌+ℤ◌, is_some, Some, None, Option, ◌==◌, bit_and}
 use Rattle.std.specs.List.{range_with_len}
 use Rattle.model.specs.declared.Setting.{Setting}
 use Rattle.model.specs.declared.Setting.TheVariants.{Foldable, Pinned}

@@ -1,10 +1,9 @@
 -- What each call does to a sound pile.
-use Rattle.std.specs.Prelude.{◌≡◌, ℕ, ◌+◌, ◌<◌, ◌≤◌, Bool, true, false, cond, List, [], ◌∷◌, ◌++◌, length, take, is_some, Some, None, Option, slice_index_or, refl}
+use Rattle.std.specs.Prelude.{◌≡◌, ℕ, ◌+◌, ◌<◌, ◌≤◌, Bool, List, length, take, is_some, Some, None, Option, slice_index_or, refl}
 use Rattle.std.proofs.Common.{arith, sym, ap, subst, ◌∙◌}
-use Rattle.std.specs.Option.{option_map}
 use Rattle.std.proofs.lemmas.List.{take_all, take_more}
 use Rattle.fault.specs.declared.Fault.{Fault}
-use Rattle.model.specs.Graph.{Body, Graph, section_of, count_of, told_record, record_of, root_count_of}
+use Rattle.model.specs.Graph.{Body, Graph, count_of, told_record, root_count_of}
 use Rattle.model.specs.Laws.{Valid}
 use Rattle.steps.specs.Below.{table}
 use Rattle.unfolding.specs.Groups.{present}
@@ -14,13 +13,12 @@ use Rattle.calls.specs.declared.Call.{Call}
 use Rattle.calls.specs.declared.Call.TheVariants.{Bind, Pin, Root, Sweep, Fold}
 use Rattle.calls.specs.declared.Answer.{Answer}
 use Rattle.calls.specs.declared.Answer.TheVariants.{Accepted, Refused, Dropped, Merged}
-use Rattle.runs.specs.State.{State, refusal, moved, unless, step, refused_or, answered, answer, after}
+use Rattle.runs.specs.State.{refusal, moved, unless, step, refused_or, answered, answer, after}
 use Rattle.slots.specs.Turns.{stays, drops, dropped_slot, leads, joins, joined_slot}
 use Rattle.ledger.specs.declared.Ledger.{Ledger}
-use Rattle.ledger.specs.Edits.{fresh, Bounds, with_bind, with_pin, with_root, Shut}
+use Rattle.ledger.specs.Edits.{Bounds, with_bind, with_pin, with_root, Shut}
 use Rattle.ledger.specs.Told.{told, Reachable, Kept}
-use Rattle.ledger.specs.Answers.{bind_refused, pin_refused, root_refused}
-use Rattle.ledger.proofs.Telling.{told_fresh, fresh_reachable, after_step, told_tells, told_kept, step_reachable, step_kept, bind_refusal, pin_refusal, root_refusal, bind_room, pin_there, root_room, small, told_bind, told_pin, told_root, bind_bounds, pin_bounds, root_bounds, shut_bounds, there, marks, class, few, told_sweep, sweep_answer, told_fold, fold_answer}
+use Rattle.ledger.proofs.Telling.{after_step, told_tells, told_kept, step_reachable, step_kept, bind_refusal, pin_refusal, root_refusal, bind_room, pin_there, root_room, small, told_bind, told_pin, told_root, bind_bounds, pin_bounds, root_bounds, shut_bounds, there, marks, class, few, told_sweep, sweep_answer, told_fold, fold_answer}
 use Rattle.pile.specs.Does.{Does}
 
 -- a section is present where a record is told

@@ -1,19 +1,18 @@
 -- The rules one after another.
-use Rattle.std.proofs.Common.{◌≡◌, ℕ, ◌+◌, ◌*◌, ◌<◌, ◌≤◌, Bool, true, false, ◌&&◌, eqb, leb, List, [], ◌∷◌, ◌++◌, map, length, take, drop, replicate, Some, None, Ok, Err, Option, Result, sym, refl, ap, ◌∙◌, arith}
+use Rattle.std.proofs.Common.{◌≡◌, ℕ, ◌+◌, ◌*◌, ◌≤◌, Bool, true, false, ◌&&◌, eqb, leb, List, [], ◌++◌, map, length, take, drop, replicate, Some, None, Ok, Err, Option, Result, sym, refl, ap, ◌∙◌, arith}
 use Rattle.std.specs.List.{range_with_len}
 use Rattle.std.proofs.lemmas.List.{length-replicate, get_or-replicate}
 use Rattle.std.proofs.lemmas.List.FromFn.{fill_by_all}
 use Rattle.std.proofs.lemmas.Bool.{and_parts, leb-true}
 use Rattle.fault.specs.declared.Fault.{Fault}
 use Rattle.field.specs.Fields.{half, long}
-use Rattle.checklist.specs.Checks.{Check, first_fault, all_hold, each, answer}
+use Rattle.checklist.specs.Checks.{Check, first_fault, each, answer}
 use Rattle.checklist.proofs.Checks.{append_none, append_some, accepts}
-use Rattle.elf.specs.Layout.{sections, place, section}
+use Rattle.elf.specs.Layout.{sections, place}
 use Rattle.rules.specs.declared.Notes.{Notes}
-use Rattle.rules.specs.declared.Symbols.{Symbols}
 use Rattle.rules.specs.declared.Pass.TheVariants.{Extents}
 use Rattle.rules.specs.Known.{Headed, Tabled, Ends}
-use Rattle.rules.specs.Notes.{Noted, listed_in, marks}
+use Rattle.rules.specs.Notes.{listed_in, marks}
 use Rattle.rules.specs.Rules.{head_rule, identified, pass_rule, table, symbols, symbols_of}
 use Rattle.rules.specs.Listing.{Item, significance, listing, listing_of, listing_rule, items, item_checks}
 use Rattle.reading.proofs.Firsts.{only_is, extent_is}

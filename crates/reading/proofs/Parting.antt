@@ -1,16 +1,15 @@
 -- The sections with relocations, one more, and their notes.
-use Rattle.std.proofs.Common.{◌≡◌, ℕ, zero, suc, ◌+◌, ◌*◌, ◌/◌, ◌%◌, ◌<◌, ◌≤◌, Bool, true, false, cond, not, ◌&&◌, ◌||◌, eqb, ltb, leb, ◌≢◌, ◌⊎◌, List, [], ◌∷◌, ◌++◌, length, get_or, set, is_some, Some, None, Option, sym, refl, ap, ◌∙◌, inl, inr, add-one, arith}
-use Rattle.std.proofs.lemmas.Bool.{eqb-true, ne_eqb, eq-eqb, leb-true, ltb-true, and_parts, and_from, and_cases, and_left, and_right, cases_eq, cases_Bool, not-true, or_cases}
+use Rattle.std.proofs.Common.{◌≡◌, ℕ, ◌+◌, ◌*◌, ◌/◌, ◌%◌, ◌<◌, ◌≤◌, Bool, true, false, cond, not, ◌&&◌, ◌||◌, eqb, ltb, leb, ◌≢◌, ◌⊎◌, List, ◌∷◌, length, get_or, set, is_some, Some, None, Option, sym, refl, ap, ◌∙◌, inl, inr, add-one, arith}
+use Rattle.std.proofs.lemmas.Bool.{eqb-true, ne_eqb, eq-eqb, leb-true, ltb-true, and_parts, and_from, and_cases, and_left, and_right, cases_eq, or_cases}
 use Rattle.std.proofs.lemmas.List.{get_or-set_same, get_or-set_other}
 use Rattle.checklist.specs.Checks.{Check, first_fault, all_hold, each, where_holds}
-use Rattle.checklist.proofs.Checks.{accepts}
 use Rattle.elf.specs.declared.Header.{Header}
 use Rattle.elf.specs.Layout.{place, section, sections, present}
 use Rattle.rules.specs.declared.Part.{Part}
 use Rattle.rules.specs.declared.Pass.TheVariants.{Extents}
 use Rattle.rules.specs.Known.{Headed, Parted}
-use Rattle.rules.specs.Notes.{or_none, part_note}
-use Rattle.rules.specs.Rules.{part, earlier, first_where, relocates, relocating, part_checks, fit_checks, table_checks, told_part, table, is_number, pass_rule}
+use Rattle.rules.specs.Notes.{or_none}
+use Rattle.rules.specs.Rules.{part, earlier, relocates, relocating, part_checks, fit_checks, told_part, table, is_number, pass_rule}
 use Rattle.reading.proofs.Firsts.{extent_is}
 
 -- what is known of a section with relocations of a present section that passed

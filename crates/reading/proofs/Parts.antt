@@ -1,13 +1,12 @@
 -- A section with relocations.
-use Rattle.std.proofs.Common.{◌≡◌, ℕ, zero, suc, ◌+◌, ◌*◌, ◌/◌, ◌<◌, ◌≤◌, Bool, true, false, cond, not, ◌&&◌, ◌||◌, eqb, ltb, leb, ◌⊎◌, List, length, get_or, is_some, Some, None, Ok, Option, sym, refl, ap, ◌∙◌, inl, inr, add-one, arith}
-use Rattle.std.proofs.lemmas.Bool.{eqb-true, ne_eqb, eq-eqb, leb-true, lt-ltb, and_parts, or_from}
+use Rattle.std.proofs.Common.{◌≡◌, ℕ, ◌+◌, ◌*◌, ◌/◌, ◌<◌, ◌≤◌, Bool, true, not, eqb, List, get_or, is_some, Some, None, Ok, Option, sym, refl, ap, ◌∙◌, arith}
+use Rattle.std.proofs.lemmas.Bool.{ne_eqb, lt-ltb}
 use Rattle.checklist.specs.Checks.{first_fault}
 use Rattle.elf.specs.declared.Header.{Header}
 use Rattle.elf.specs.Layout.{header_at, place, section, sections, present}
 use Rattle.rules.specs.Known.{Headed, Parted}
-use Rattle.rules.specs.Notes.{or_none, part_note}
+use Rattle.rules.specs.Notes.{or_none}
 use Rattle.rules.specs.Rules.{part, relocates, relocating, part_checks, fit_checks, told_part, table, is_number}
-use Rattle.rules.specs.declared.Part.{Part}
 use Rattle.field.specs.Fields.{within}
 use Rattle.reading.proofs.Firsts.{first_where_is}
 use Rattle.reading.proofs.Sections.{placed, header_is}

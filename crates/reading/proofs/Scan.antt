@@ -1,5 +1,5 @@
 -- The address-significance table, read byte by byte.
-use Rattle.std.proofs.Common.{◌≡◌, ℕ, zero, suc, ◌+◌, ◌-◌, ◌*◌, ◌^◌, ◌<◌, ◌≤◌, Bool, true, false, cond, not, ◌&&◌, ◌||◌, eqb, ltb, leb, ◌≢◌, ◌⊎◌, List, [], ◌∷◌, ◌++◌, map, length, get_or, drop, set, replicate, Some, None, Ok, Err, Option, Result, sym, refl, ap, ◌∙◌, inl, inr, add-one, arith}
+use Rattle.std.proofs.Common.{◌≡◌, ℕ, zero, suc, ◌+◌, ◌-◌, ◌*◌, ◌^◌, ◌<◌, ◌≤◌, Bool, true, false, cond, not, ◌&&◌, ◌||◌, eqb, ltb, leb, ◌≢◌, ◌⊎◌, List, [], ◌∷◌, map, length, get_or, drop, set, replicate, Some, None, Ok, Err, Option, Result, sym, refl, ap, ◌∙◌, inl, inr, arith}
 use Rattle.fault.specs.declared.Fault.{Fault}
 use Rattle.field.specs.declared.Number.{Number}
 use Rattle.field.specs.declared.Gathered.{Gathered}
@@ -7,7 +7,7 @@ use Rattle.field.specs.declared.Gathered.TheVariants.{More, Whole}
 use Rattle.field.specs.Uleb.{decoded, limited, number_at, misshapen, gathered, none_yet}
 use Rattle.field.proofs.Onward.{prefixed, pending, Steps, stepped, some_taken}
 use Rattle.std.specs.List.{range_with_len}
-use Rattle.std.proofs.lemmas.Bool.{cases_eq, cases_Bool, eqb-true, eq-eqb, ne_eqb, lt-ltb, le-ltb, cases_lt}
+use Rattle.std.proofs.lemmas.Bool.{cases_eq, eq-eqb, ne_eqb, lt-ltb, le-ltb, cases_lt}
 use Rattle.std.proofs.lemmas.List.{drop_more, drop_all, length-replicate, get_or-replicate, length-set, get_or-set_same, get_or-set_other}
 use Rattle.std.proofs.lemmas.List.FromFn.{fill_by_all}
 use Rattle.checklist.specs.Checks.{first_fault}
@@ -16,7 +16,7 @@ use Rattle.elf.specs.declared.Symbol.{Symbol}
 use Rattle.elf.specs.Layout.{outside}
 use Rattle.rules.specs.Notes.{listed_in}
 use Rattle.rules.specs.Rules.{symbols, symbol}
-use Rattle.rules.specs.Listing.{Item, left_of, items, number_checks, item_checks, defined_in, names, lists, marked}
+use Rattle.rules.specs.Listing.{Item, left_of, items, number_checks, item_checks, defined_in, lists, marked}
 
 -- the items that are left, where k bytes with the value v of a number that began at `from` were read
 abbrev pub rest : ℕ → ℕ → ℕ → ℕ → List ℕ → List Item

@@ -1,8 +1,8 @@
 -- The steps of a loop over sections.
-use Rattle.std.proofs.Common.{◌≡◌, ℕ, ◌+◌, ◌*◌, List, length, Ok, Option, sym, refl, ap, ◌∙◌}
+use Rattle.std.proofs.Common.{◌≡◌, ℕ, ◌+◌, ◌*◌, List, length, Ok, Option, sym, ap, ◌∙◌}
 use Rattle.fault.specs.declared.Fault.{Fault}
 use Rattle.checklist.specs.Checks.{first_fault}
-use Rattle.field.specs.Fields.{within, long}
+use Rattle.field.specs.Fields.{within}
 use Rattle.field.proofs.Read.{read_is}
 use Rattle.elf.specs.declared.Header.{Header}
 use Rattle.elf.specs.Layout.{header_at, place, section}

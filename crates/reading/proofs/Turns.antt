@@ -1,5 +1,5 @@
 -- What holds between the sections, and within the entries of one, while relocations are read.
-use Rattle.std.proofs.Common.{◌≡◌, ℕ, ◌+◌, ◌*◌, ◌<◌, ◌≤◌, List, ◌++◌, map, length, set, replicate, Some, None, Ok, Err, Option, sym, refl, ap, ◌∙◌, arith}
+use Rattle.std.proofs.Common.{◌≡◌, ℕ, ◌+◌, ◌*◌, ◌<◌, ◌≤◌, List, ◌++◌, map, length, set, replicate, Some, None, Ok, Err, Option, sym, refl, ap, ◌∙◌}
 use Rattle.std.proofs.lemmas.List.{length-replicate, get_or-replicate, length-set}
 use Rattle.checklist.specs.Checks.{answer}
 use Rattle.checklist.proofs.Checks.{ok_none, err_some, accepts, append_both, append_none, append_some, each_more, each_found}

@@ -1,5 +1,5 @@
 -- What is printed of a text: the table that it is, swept and folded, or the row of its refusal.
-use Rattle.std.specs.Prelude.{◌≡◌, ℕ, Bool, true, cond, List, [], ◌∷◌, length, is_some, Some, None, Option, nat_le}
+use Rattle.std.specs.Prelude.{ℕ, Bool, cond, List, [], ◌∷◌, length, is_some, Some, None, Option, nat_le}
 use Rattle.fault.specs.declared.Fault.{Fault}
 use Rattle.fault.specs.declared.Kind.TheVariants.{Oversize}
 use Rattle.fault.specs.declared.Layer.TheVariants.{Output}

@@ -1,15 +1,14 @@
 -- The parts of a row, one by one: what is read at a place, and what stands there if it is read.
-use Rattle.std.proofs.Common.{◌≡◌, ℕ, zero, suc, ◌+◌, ◌-◌, ◌*◌, ◌^◌, ◌<◌, ◌≤◌, min, Bool, true, false, cond, ◌&&◌, eqb, leb, ◌⊎◌, List, [], ◌∷◌, ◌++◌, length, get_or, take, drop, ℤ, pos, negsuc, Some, None, Ok, Err, Option, Result, sym, refl, ap, ◌∙◌, subst, inl, inr, append_assoc, mul-zero, mul-suc, one-add, arith}
+use Rattle.std.proofs.Common.{◌≡◌, ℕ, zero, suc, ◌+◌, ◌*◌, ◌^◌, ◌<◌, ◌≤◌, Bool, true, false, cond, eqb, leb, ◌⊎◌, List, [], ◌∷◌, ◌++◌, length, get_or, take, drop, ℤ, pos, negsuc, Some, None, Ok, Err, Option, Result, sym, refl, ap, ◌∙◌, inl, inr, append_assoc, mul-zero, mul-suc, one-add, arith}
 use lib.Signed.{mag}
 use Rattle.std.specs.Fmt.{signed_decimal}
 use Rattle.std.specs.List.{AllByRecursion}
 use Rattle.std.proofs.lemmas.List.{length-append, length-drop, length-take-le, take-append-drop, take_at, drop_at, drop-drop, drop_more, get_or_past, get_or-drop}
-use Rattle.std.proofs.lemmas.Bool.{cases_lt, cond-true, eqb-true, eq-eqb, leb-true, le-leb, and_parts}
+use Rattle.std.proofs.lemmas.Bool.{cases_lt, cond-true, eqb-true, eq-eqb, leb-true, le-leb}
 use Rattle.column.specs.Columns.{column, columns, read_column, column_of}
-use Rattle.column.proofs.Columns.{column_reads, column_only, length_column, length_columns, columns_at}
-use Rattle.row_part.specs.declared.Cause.{Cause}
+use Rattle.column.proofs.Columns.{column_reads, column_only, length_column}
 use Rattle.row_part.specs.declared.Cause.TheVariants.{Column, Range, End}
-use Rattle.row_part.specs.Parts.{and_then, formed, column_at, bounded, within, natural_at, end_at}
+use Rattle.row_part.specs.Parts.{and_then, formed, column_at, bounded, natural_at, end_at}
 
 -- the number takes at most w columns, and it fits 64 bits
 abbrev pub Fits : ℕ → ℤ → Type 0

@@ -5,7 +5,7 @@ use Rattle.model.specs.declared.Target.{Target}
 use Rattle.model.specs.Laws.{lowest, highest}
 use Rattle.column.specs.Columns.{column_of}
 use Rattle.row_part.specs.declared.Cause.{Cause}
-use Rattle.row_part.specs.declared.Cause.TheVariants.{Letter, Column, Range, End}
+use Rattle.row_part.specs.declared.Cause.TheVariants.{Column, Range, End}
 
 -- one step after another, up to the first that refuses
 abbrev pub and_then : {A B E : Type 0} → Result A E → (A → Result B E) → Result B E

@@ -1,5 +1,5 @@
 -- What is noted of an object while it is checked, so that no question about it has to search.
-use Rattle.std.specs.Prelude.{◌≡◌, ℕ, ◌≤◌, Bool, List, map, length, take, is_some, Some, None, filter, Option}
+use Rattle.std.specs.Prelude.{◌≡◌, ℕ, ◌≤◌, Bool, List, map, take, is_some, Some, None, filter, Option}
 use Rattle.std.specs.List.{range_with_len}
 use Rattle.elf.specs.Layout.{sections, section, root}
 use Rattle.rules.specs.Rules.{symbols, part}

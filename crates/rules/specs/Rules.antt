@@ -1,10 +1,10 @@
 -- The rules that an object has to meet, as checks in their order.
-use Rattle.std.specs.Prelude.{ℕ, zero, suc, ◌+◌, ◌*◌, ◌/◌, ◌%◌, ◌^◌, Bool, true, false, cond, not, ◌&&◌, ◌||◌, List, [], ◌∷◌, ◌++◌, length, ℤ, pos, negsuc, is_some, Some, None, Option, ◌==◌, int_lt, nat_le, nat_lt, slice_index}
+use Rattle.std.specs.Prelude.{ℕ, zero, suc, ◌+◌, ◌*◌, ◌/◌, ◌%◌, ◌^◌, Bool, false, cond, not, ◌&&◌, ◌||◌, List, [], ◌∷◌, ◌++◌, length, ℤ, pos, negsuc, is_some, Some, None, Option, ◌==◌, int_lt, nat_le, nat_lt, slice_index}
 use Rattle.fault.specs.declared.Fault.{Fault}
 use Rattle.fault.specs.declared.Kind.{Kind}
 use Rattle.fault.specs.declared.Kind.TheVariants.{Short, Foreign, Oversize, Dangling, Misshapen}
 use Rattle.fault.specs.declared.Layer.TheVariants.{Field, Format}
-use Rattle.field.specs.Fields.{half, word, long, short}
+use Rattle.field.specs.Fields.{half, short}
 use Rattle.checklist.specs.Checks.{Check, each, where_holds}
 use Rattle.elf.specs.declared.Header.{Header}
 use Rattle.elf.specs.declared.Symbol.{Symbol}

@@ -10,7 +10,7 @@ use Rattle.calls.specs.declared.Slot.{Slot}
 use Rattle.calls.specs.declared.Slot.TheVariants.{Untouched, Folded, Swept}
 use Rattle.calls.specs.declared.Place.TheVariants.{At, Swept as Nowhere}
 use Rattle.runs.specs.State.{State, slot_of, found_at}
-use Rattle.runs.proofs.Slots.{fresh_at, Descending, found_untouched, same, Ending, found_cases}
+use Rattle.runs.proofs.Slots.{fresh_at, Descending, found_untouched, Ending, found_cases}
 
 abbrev pub untouched : Slot → Bool
 untouched Untouched = true

@@ -2,7 +2,7 @@
 use Rattle.std.specs.Prelude.{◌≡◌, ℕ, Bool, true, false, cond, not, ◌&&◌, List, length, replicate, ◌==◌, slice_index, slice_index_or}
 use Rattle.calls.specs.declared.Slot.{Slot}
 use Rattle.calls.specs.declared.Slot.TheVariants.{Untouched, Folded, Swept}
-use Rattle.runs.specs.State.{slot_of, slots_by}
+use Rattle.runs.specs.State.{slots_by}
 use Rattle.steps.specs.Below.{count_below}
 use Rattle.slots.specs.declared.Slots.{Slots}
 

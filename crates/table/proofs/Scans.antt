@@ -1,7 +1,6 @@
 -- One row of the walk over a text: taken, or refused.
-use Rattle.std.proofs.Common.{◌≡◌, ℕ, zero, suc, ◌+◌, ◌-◌, ◌<◌, ◌≤◌, Bool, true, false, cond, List, [], ◌∷◌, ◌++◌, length, take, drop, set, Some, None, Ok, Err, Option, Result, sym, refl, ap, ◌∙◌, subst, arith}
+use Rattle.std.proofs.Common.{◌≡◌, ℕ, ◌+◌, ◌<◌, ◌≤◌, cond, List, ◌∷◌, ◌++◌, length, drop, Some, None, Ok, Err, Result, sym, refl, ap, ◌∙◌, subst, arith}
 use Rattle.std.proofs.lemmas.List.{drop-drop, drop_all, length-append, length-drop, length-set}
-use Rattle.fault.specs.declared.Fault.{Fault}
 use Rattle.lines.specs.Lines.{lines}
 use Rattle.lines.proofs.Rows.{whole, whole_lines, OneRow, one_lines, first_row}
 use Rattle.row.specs.declared.Cause.{Cause}
@@ -10,7 +9,7 @@ use Rattle.row.specs.Reading.{read_row}
 use Rattle.row.proofs.Rows.{row_reads, row_only}
 use Rattle.layout.specs.declared.State.{State}
 use Rattle.layout.specs.Order.{step, is_done}
-use Rattle.layout.specs.Reading.{step_read, step_line, named, bad_row_at}
+use Rattle.layout.specs.Reading.{step_read, named, bad_row_at}
 use Rattle.layout.proofs.Texts.{row_itself, lines_render, line_exact}
 use Rattle.table.specs.Notes.{note_entry, note, scan_from, scan_after, unnoted, loose_on, loose_from}
 

@@ -1,11 +1,10 @@
 -- The questions to a reader, from what it holds.
-use Rattle.std.specs.Prelude.{◌≡◌, ℕ, zero, suc, true, ◌⊎◌, List, [], length, Some, None, Option, slice_index, refl}
-use Rattle.std.proofs.Common.{sym, ap, subst, ◌∙◌, inl, inr, ⊎_elim, arith}
+use Rattle.std.specs.Prelude.{◌≡◌, ℕ, zero, suc, true, List, [], Some, None, Option, slice_index, refl}
+use Rattle.std.proofs.Common.{sym, ap, subst, ◌∙◌, ⊎_elim, arith}
 use Rattle.std.specs.Option.{option_map}
 use Rattle.std.proofs.lemmas.Bool.{cond-false, le-ltb}
-use Rattle.fault.specs.declared.Fault.{Fault}
 use Rattle.model.specs.declared.Record.{Record}
-use Rattle.model.specs.Graph.{Body, empty, count_of, record_of, byte_of, relocation_of, root_count_of, root_of}
+use Rattle.model.specs.Graph.{empty, count_of, record_of, byte_of, relocation_of, root_count_of, root_of}
 use Rattle.model.specs.Laws.{Valid}
 use Rattle.lines.specs.Lines.{lines, row_start}
 use Rattle.row.specs.Reading.{read_row}

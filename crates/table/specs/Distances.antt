@@ -1,19 +1,17 @@
 -- The places that the reader computes are those of the graph's bytes, relocations and roots.
-use Rattle.std.specs.Prelude.{◌≡◌, ℕ, zero, suc, ◌+◌, ◌-◌, ◌*◌, ◌/◌, ◌%◌, ◌^◌, ◌<◌, ◌≤◌, Bool, true, false, cond, ◌⊎◌, List, [], ◌∷◌, ◌++◌, map, length, take, drop, ℤ, pos, Some, None, Ok, Err, Option, Result, ◌==◌, slice_index, refl}
-use Rattle.std.proofs.Common.{sym, ap, subst, ◌∙◌, inl, inr, arith, add-zero, zero-add, add_assoc}
+use Rattle.std.specs.Prelude.{◌≡◌, ℕ, zero, suc, ◌+◌, ◌-◌, ◌*◌, ◌/◌, ◌%◌, ◌^◌, ◌<◌, ◌≤◌, Bool, cond, ◌⊎◌, List, [], ◌∷◌, length, take, drop, pos, Some, Ok, ◌==◌, slice_index}
+use Rattle.std.proofs.Common.{sym, ap, subst, ◌∙◌, inl, inr, arith, add-zero}
 use Rattle.std.specs.List.{flat_map, slice_get, AllByRecursion}
-use Rattle.std.proofs.lemmas.List.{drop-drop, drop_at, drop_more, length-take, length-drop, length-append, get_or-take, get_or-drop, drop_all, nil_from_length}
-use Rattle.std.proofs.ByRecursion.{All-take, All-drop, All-get_or}
-use Rattle.std.proofs.lemmas.Bool.{cases_eq, cases_lt, eq-eqb, ne_eqb}
+use Rattle.std.proofs.lemmas.List.{drop-drop, length-take, length-drop, length-append, get_or-take, get_or-drop}
+use Rattle.std.proofs.ByRecursion.{All-take, All-drop}
+use Rattle.std.proofs.lemmas.Bool.{cases_lt, ne_eqb}
 use Rattle.column.specs.Columns.{read_column}
 use Rattle.model.specs.declared.Relocation.{Relocation}
-use Rattle.model.specs.Graph.{Body, Graph, record_in}
-use Rattle.row.specs.declared.Cause.{Cause}
-use Rattle.row.specs.Entry.{Entry, header, section, bytes, relocation, root, end, render, Ranged}
+use Rattle.row.specs.Entry.{Entry, bytes, relocation, root, end, render, Ranged}
 use Rattle.row.specs.Reading.{read_row}
 use Rattle.row.specs.Told.{row_length}
 use Rattle.row.proofs.Rows.{row_reads, render_length, byte_column}
-use Rattle.layout.specs.Layout.{with_bytes, with_relocations, with_section, with_sections, with_roots, entries, text_of}
+use Rattle.layout.specs.Layout.{with_bytes, with_relocations, with_roots}
 use Rattle.layout.proofs.Only.{with_bytes_some}
 use Rattle.table.specs.Places.{bytes_length}
 use Rattle.table.specs.Spots.{Stands, stands_next}

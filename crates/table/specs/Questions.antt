@@ -1,7 +1,7 @@
 -- Every question is answered by the graph that the text tells.
-use Rattle.std.specs.Prelude.{◌≡◌, ℕ, zero, suc, ◌+◌, ◌-◌, ◌*◌, ◌/◌, ◌%◌, ◌^◌, ◌<◌, ◌≤◌, Bool, true, false, cond, not, ◌⊎◌, List, [], ◌∷◌, ◌++◌, map, length, take, drop, replicate, ℤ, pos, is_some, Some, None, Ok, Err, Option, Result, ◌==◌, nat_lt, slice_index, slice_index_or, refl}
-use Rattle.std.proofs.Common.{sym, ap, subst, ◌∙◌, inl, inr, arith, zero-add, add_assoc}
-use Rattle.std.specs.List.{flat_map, slice_get, AllByRecursion}
+use Rattle.std.specs.Prelude.{◌≡◌, ℕ, zero, suc, ◌+◌, ◌-◌, ◌*◌, ◌^◌, ◌<◌, ◌≤◌, Bool, cond, not, ◌⊎◌, List, [], ◌∷◌, ◌++◌, map, length, take, drop, ℤ, pos, is_some, Some, None, Err, Option, Result, ◌==◌, nat_lt, slice_index, slice_index_or, refl}
+use Rattle.std.proofs.Common.{sym, ap, subst, ◌∙◌, inl, inr, arith, zero-add}
+use Rattle.std.specs.List.{slice_get, AllByRecursion}
 use Rattle.std.proofs.lemmas.List.{append_assoc, get_or-replicate, get_or_past}
 use Rattle.std.proofs.ByRecursion.{All-get_or, All-weaker}
 use Rattle.std.proofs.lemmas.Option.{slice_get-get_or, slice_get_past}
@@ -12,23 +12,22 @@ use Rattle.column.proofs.Columns.{columns_at, column_reads}
 use Rattle.model.specs.declared.Record.{Record}
 use Rattle.model.specs.declared.Relocation.{Relocation}
 use Rattle.model.specs.declared.Target.TheVariants.{Section}
-use Rattle.model.specs.Graph.{Body, Graph, record_in, section_of, told_record, told_byte, told_relocation}
-use Rattle.model.specs.Laws.{LawfulBody, LawfulRelocation}
+use Rattle.model.specs.Graph.{Body, record_in, section_of, told_record, told_byte, told_relocation}
 use Rattle.lines.specs.Lines.{lines}
 use Rattle.row_part.specs.declared.Cause.{Cause}
 use Rattle.row_part.specs.declared.Cause.TheVariants.{Letter}
-use Rattle.row.specs.Entry.{Entry, header, section, bytes, relocation, root, end, numbers, render, Ranged, RangedRecord}
+use Rattle.row.specs.Entry.{Entry, header, section, relocation, end, numbers, render, Ranged}
 use Rattle.row.specs.Reading.{read_row}
 use Rattle.row.proofs.Rows.{fits}
 use Rattle.row_part.proofs.Parts.{Fits}
-use Rattle.layout.specs.Layout.{with_bytes, with_relocations, with_section, with_sections, with_roots, present_count, entries, text_of, Formed, Free}
+use Rattle.layout.specs.Layout.{with_relocations, with_section, with_sections, with_roots, present_count, entries, text_of, Formed}
 use Rattle.layout.specs.Reading.{bad_row, graph_of, named, absent_in, dangles, dangling_from}
 use Rattle.layout.proofs.Texts.{row_itself, lines_text, formed_text}
 use Rattle.layout.proofs.Ranges.{ranged_entries, count_below}
 use Rattle.layout.proofs.Aims.{present_below}
 use Rattle.table.specs.Notes.{note, noted, no_notes, starts_of, unnoted, loose_on, loose_from}
 use Rattle.table.specs.Places.{sections_told, roots_told, record_told, relocation_told, root_told, rows_from, bytes_length, byte_place, relocation_place, byte_told, size_told, byte_in, relocation_in, root_in}
-use Rattle.table.specs.Spots.{Stands, stands_next, notes, Spot, Noted, sections_noted, past_sections}
+use Rattle.table.specs.Spots.{Stands, stands_next, notes, Spot, sections_noted, past_sections}
 use Rattle.table.specs.Distances.{stands_read, stands_after, past_bytes, byte_spot, relocation_spot, root_spot, roots_place}
 
 noted_notes : (at : ℕ) (es : List Entry) (xs : List ℕ) → AllByRecursion Ranged es → noted at (map render es) xs ≡ notes at es xs

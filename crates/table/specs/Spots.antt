@@ -1,16 +1,13 @@
 -- Where the parts of a table are: rows have known lengths, so every place can be computed from a section's start.
-use Rattle.std.specs.Prelude.{◌≡◌, ℕ, zero, suc, ◌+◌, ◌-◌, ◌*◌, ◌/◌, ◌%◌, ◌<◌, ◌≤◌, Bool, true, false, cond, ◌⊎◌, List, [], ◌∷◌, ◌++◌, map, length, get_or, take, drop, Some, None, Ok, Err, Option, Result, slice_index, slice_index_or, slice_set, refl}
-use Rattle.std.proofs.Common.{sym, ap, subst, ◌∙◌, inl, inr, arith}
-use Rattle.std.specs.List.{flat_map, AllByRecursion}
+use Rattle.std.specs.Prelude.{◌≡◌, ℕ, zero, suc, ◌+◌, ◌<◌, ◌≤◌, List, [], ◌∷◌, length, get_or, take, drop, Some, None, Option, slice_index, slice_index_or, slice_set, refl}
+use Rattle.std.proofs.Common.{sym, ap, subst, ◌∙◌, arith}
+use Rattle.std.specs.List.{flat_map}
 use Rattle.std.proofs.lemmas.List.{drop-drop, drop_at, get_or-set_same, get_or-set_other, length-set}
-use Rattle.std.proofs.lemmas.Bool.{cases_eq, cases_lt}
 use Rattle.model.specs.declared.Relocation.{Relocation}
-use Rattle.model.specs.Graph.{Body, Graph, record_in}
-use Rattle.row.specs.declared.Cause.{Cause}
-use Rattle.row.specs.Entry.{Entry, header, section, bytes, relocation, root, end, render, Ranged}
-use Rattle.row.specs.Reading.{read_row}
-use Rattle.layout.specs.Layout.{with_bytes, with_relocations, with_section, with_sections, with_roots, entries, text_of}
-use Rattle.table.specs.Notes.{note_entry, note, noted}
+use Rattle.model.specs.Graph.{Body, record_in}
+use Rattle.row.specs.Entry.{Entry, section, bytes, relocation, root, end, render}
+use Rattle.layout.specs.Layout.{with_bytes, with_relocations, with_section, with_sections, with_roots}
+use Rattle.table.specs.Notes.{note_entry}
 
 -- the text from `at` on is that of some rows
 abbrev pub Stands : List ℕ → ℕ → List Entry → Type 0

@@ -1,15 +1,15 @@
 -- The parts of a table's text, one row or one section after another.
-use Rattle.std.proofs.Common.{◌≡◌, ℕ, zero, suc, ◌+◌, ◌-◌, ◌*◌, ◌^◌, ◌<◌, ◌≤◌, min, Bool, true, false, cond, ◌⊎◌, List, [], ◌∷◌, ◌++◌, length, get_or, take, drop, set, pos, Some, None, Option, sym, refl, ap, ◌∙◌, subst, inl, inr, append_assoc, add-one, arith}
+use Rattle.std.proofs.Common.{◌≡◌, ℕ, zero, suc, ◌+◌, ◌-◌, ◌<◌, ◌≤◌, min, ◌⊎◌, List, [], ◌∷◌, ◌++◌, length, get_or, take, drop, set, pos, Some, None, Option, sym, refl, ap, ◌∙◌, inl, inr, append_assoc, add-one, arith}
 use Rattle.std.specs.List.{flat_map, slice_get}
-use Rattle.std.proofs.lemmas.List.{append-nil, take_all, take-take, take_more, take_more_set, get_or-drop, drop_more, drop_all, drop-drop, length-drop, nil_from_length}
+use Rattle.std.proofs.lemmas.List.{append-nil, take_all, take-take, take_more, take_more_set, get_or-drop, drop_more, drop_all, drop-drop, length-drop}
 use Rattle.std.proofs.lemmas.Option.{slice_get-get_or}
 use Rattle.std.proofs.lemmas.Bool.{cases_lt}
 use Rattle.model.specs.declared.Record.{Record}
 use Rattle.model.specs.declared.Relocation.{Relocation}
 use Rattle.model.specs.declared.Target.TheVariants.{Outside}
-use Rattle.model.specs.Graph.{Body, Graph, record_in, told_record, told_byte, told_relocation, section_of}
+use Rattle.model.specs.Graph.{Body, Graph, record_in, told_record, told_byte, told_relocation}
 use Rattle.row.specs.Entry.{Entry, header, section, bytes, relocation, root, end, render}
-use Rattle.layout.specs.Layout.{with_bytes, with_relocations, with_section, with_sections, with_roots, present_count, entries, text_of}
+use Rattle.layout.specs.Layout.{with_bytes, with_relocations, with_section, with_sections, with_roots, present_count, text_of}
 use Rattle.layout.proofs.Only.{with_bytes_some}
 use Rattle.table_writer.specs.Texts.{bytes_in, relocations_in, bytes_text, relocations_text, section_text, sections_text, roots_text, closing_text}
 

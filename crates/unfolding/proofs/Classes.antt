@@ -1,10 +1,10 @@
 -- The lowest section of each group at a depth; a depth not above the count is stable; rounds.
-use Rattle.std.proofs.Common.{◌≡◌, ℕ, zero, suc, ◌<◌, ◌≤◌, Bool, true, false, not, ◌&&◌, ◌||◌, eqb, Decides, sym, refl, ap, ◌∙◌, subst, ⊎_elim, arith}
-use Rattle.std.proofs.lemmas.Bool.{cases_lt, cases_Bool, both_ways, cond-true, cond-false, eq-eqb, eqb-true, and_parts, and_from}
+use Rattle.std.proofs.Common.{◌≡◌, ℕ, suc, ◌<◌, ◌≤◌, Bool, true, false, ◌&&◌, eqb, Decides, sym, refl, ap, ◌∙◌, ⊎_elim, arith}
+use Rattle.std.proofs.lemmas.Bool.{cases_Bool, cond-true, cond-false, eq-eqb, eqb-true, and_parts, and_from}
 use Rattle.std.proofs.lemmas.Bool.Decides.{Decides-and, Decides-like}
 use Rattle.model.specs.Graph.{Graph, count_of}
 use Rattle.steps.specs.Below.{all_below, least_below}
-use Rattle.steps.proofs.Below.{all_decides, least_is, least_passes, least_least}
+use Rattle.steps.proofs.Below.{all_decides, least_passes, least_least}
 use Rattle.steps.proofs.Count.{rising}
 use Rattle.unfolding.specs.Depth.{unfolding_at}
 use Rattle.unfolding.specs.Telling.{Telling, Lawful, look, AgreeBy, AlikeBy, agrees_by}

@@ -1,8 +1,8 @@
 -- Agreement from depth to depth, of any two ways to look at sections.
-use Rattle.std.proofs.Common.{◌≡◌, ℕ, zero, suc, ◌<◌, ◌≤◌, sym, refl, ap, ◌∙◌, subst, ⊎_elim, arith}
+use Rattle.std.proofs.Common.{◌≡◌, ℕ, zero, suc, ◌≤◌, ap, subst, ⊎_elim, arith}
 use Rattle.std.proofs.lemmas.Bool.{cases_lt}
-use Rattle.unfolding.specs.Depth.{Shape, Look, Unfolding, unfolding_at, shape_map}
-use Rattle.unfolding.proofs.Shapes.{ShapeRel, shape_to, shape_from, shape_weaker}
+use Rattle.unfolding.specs.Depth.{Shape, Look, unfolding_at}
+use Rattle.unfolding.proofs.Shapes.{shape_to, shape_from, shape_weaker}
 
 -- agreement at k + 1 gives agreement at k
 pub narrows :

@@ -1,12 +1,12 @@
 -- What two sections have in common that agree at depth 0, and stability for all sections from stability for the foldable ones.
-use Rattle.std.proofs.Common.{◌≡◌, ℕ, zero, suc, ◌<◌, ◌≤◌, Bool, true, false, [], is_some, Some, None, Decides, Option, sym, refl, ap, ◌∙◌, subst, ⊎_elim, arith}
+use Rattle.std.proofs.Common.{◌≡◌, ℕ, zero, suc, ◌<◌, ◌≤◌, true, false, [], is_some, Some, None, Decides, Option, sym, refl, ap, ◌∙◌, ⊎_elim, arith}
 use Rattle.std.specs.Option.{option_map}
 use Rattle.std.proofs.lemmas.Bool.{cases_lt, both_ways}
 use Rattle.std.proofs.lemmas.List.{get_or_past}
 use Rattle.model.specs.declared.Setting.{Setting}
 use Rattle.model.specs.declared.Setting.TheVariants.{Foldable, Pinned}
 use Rattle.model.specs.Graph.{Body, Graph, section_of, count_of, Present}
-use Rattle.unfolding.specs.Depth.{Shape, Look, unfolding_at, shape_map}
+use Rattle.unfolding.specs.Depth.{unfolding_at, shape_map}
 use Rattle.unfolding.specs.Telling.{Telling, Lawful, Marked, setting_in, setting_of, seen, look, AgreeBy, AlikeBy, agrees_by}
 use Rattle.unfolding.specs.Groups.{may_fold, foldable, FoldAble, StableBy}
 use Rattle.unfolding.proofs.Same.{unfolding_decides}

@@ -1,20 +1,19 @@
 -- Alike sections match, and matching sections are alike.
-use Rattle.std.proofs.Common.{◌≡◌, ℕ, zero, suc, Bool, true, false, List, [], ◌∷◌, map, length, is_some, Some, None, Option, sym, refl, ap, ◌∙◌, subst, arith}
+use Rattle.std.proofs.Common.{◌≡◌, ℕ, zero, suc, true, false, List, [], ◌∷◌, map, length, is_some, Some, None, Option, sym, refl, ap, ◌∙◌}
 use Rattle.std.specs.Option.{option_map}
 use Rattle.std.specs.List.{slice_get}
-use Rattle.std.proofs.lemmas.Bool.{both_ways}
 use Rattle.model.specs.declared.Setting.{Setting}
 use Rattle.model.specs.declared.Setting.TheVariants.{Foldable, Pinned}
 use Rattle.model.specs.declared.Target.{Target}
 use Rattle.model.specs.declared.Target.TheVariants.{Section, Outside}
 use Rattle.model.specs.declared.Relocation.{Relocation}
 use Rattle.model.specs.declared.Record.{Record}
-use Rattle.model.specs.Graph.{Body, Graph, Present, section_of, told_record, told_byte, told_relocation, record_of, byte_of, relocation_of}
-use Rattle.unfolding.specs.Depth.{Link, Told, Arm, Shape, unfolding_at, shape_map}
-use Rattle.unfolding.specs.Telling.{told_target, arm, arms_in, setting_in, setting_of, look, AgreeBy}
-use Rattle.unfolding.specs.Groups.{may_fold, foldable}
-use Rattle.unfolding.specs.Sections.{Mark, Face, mark_of, face_of, Agree, Alike, rules}
-use Rattle.unfolding.specs.Matching.{Aims, Links, BothLink, Matches, AlikeMatches, MatchingAlike}
+use Rattle.model.specs.Graph.{Body, section_of, told_record, told_byte, told_relocation}
+use Rattle.unfolding.specs.Depth.{Link, unfolding_at}
+use Rattle.unfolding.specs.Telling.{told_target, arm, arms_in, setting_in, look}
+use Rattle.unfolding.specs.Groups.{may_fold}
+use Rattle.unfolding.specs.Sections.{Mark, Face, mark_of, face_of, Agree, rules}
+use Rattle.unfolding.specs.Matching.{Aims, BothLink, AlikeMatches, MatchingAlike}
 use Rattle.unfolding.proofs.Shapes.{ToldRel, ArmsRel, ShapeRel, shape_to, shape_from}
 use Rattle.unfolding.proofs.Theorems.{marks_tell}
 

@@ -1,5 +1,5 @@
 -- The tests decide equality.
-use Rattle.std.proofs.Common.{◌≡◌, ℕ, zero, suc, Bool, true, false, ◌&&◌, eqb, List, [], ◌∷◌, ℤ, pos, negsuc, Decides, sym, refl, ap, ◌∙◌}
+use Rattle.std.proofs.Common.{◌≡◌, ℕ, zero, suc, Bool, ◌&&◌, eqb, List, [], ◌∷◌, ℤ, pos, negsuc, Decides, refl, ap}
 use Rattle.std.proofs.lemmas.Bool.Decides.{Decides-eqb, Decides-and, Decides-like}
 use Rattle.unfolding.specs.Depth.{Link, Told, outside, section, Arm, Shape, Unfolding, same_integer, same_link, same_told, same_arm, same_list, same_shape, same_unfolding}
 

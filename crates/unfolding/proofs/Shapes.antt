@@ -1,8 +1,8 @@
 -- Shapes, with what is told of the sections pointed at put through a function: two results are equal exactly when the shapes are equal
 -- but for the sections pointed at, and these are told alike one by one.
-use Rattle.std.proofs.Common.{◌≡◌, ℕ, List, [], ◌∷◌, map, sym, refl, ap, ◌∙◌, arith}
+use Rattle.std.proofs.Common.{◌≡◌, ℕ, List, [], ◌∷◌, map, refl, ap, arith}
 use mathlib.Core.Path.{fun_ext}
-use Rattle.unfolding.specs.Depth.{Link, Told, outside, section, Arm, Shape, told_map, arm_map, shape_map}
+use Rattle.unfolding.specs.Depth.{Told, outside, section, Arm, Shape, told_map, arm_map, shape_map}
 
 -- the relation
 

@@ -1,15 +1,14 @@
 -- The theorems at what unfoldings tell by the rules.
-use Rattle.std.proofs.Common.{◌≡◌, ℕ, zero, suc, ◌≤◌, Bool, true, false, is_some, Some, None, Option, sym, refl, ap, ◌∙◌}
-use Rattle.std.specs.Option.{option_map}
+use Rattle.std.proofs.Common.{◌≡◌, ℕ, true, false, is_some, Some, None, Option, sym, refl, ◌∙◌}
 use Rattle.std.proofs.lemmas.Bool.{both_ways}
 use Rattle.model.specs.declared.Setting.{Setting}
 use Rattle.model.specs.declared.Setting.TheVariants.{Foldable, Pinned}
-use Rattle.model.specs.Graph.{Body, Graph, section_of, Present}
-use Rattle.unfolding.specs.Telling.{setting_in, setting_of, look}
-use Rattle.unfolding.specs.Groups.{may_fold, foldable, FoldAble}
-use Rattle.unfolding.specs.Sections.{Mark, mark_of, Agree, rules}
-use Rattle.unfolding.specs.Theorems.{PresenceDecided, MarksTell, Narrows, GroupsLast, GroupsSettle, DepthDecides, RoundsLeast, Represents, RoundsAreLeast, LowestRepresents}
-use Rattle.unfolding.proofs.Depths.{narrows, steady_alike}
+use Rattle.model.specs.Graph.{Graph, section_of, Present}
+use Rattle.unfolding.specs.Telling.{setting_of, look}
+use Rattle.unfolding.specs.Groups.{may_fold, foldable}
+use Rattle.unfolding.specs.Sections.{Mark, mark_of, rules}
+use Rattle.unfolding.specs.Theorems.{PresenceDecided, MarksTell, Narrows, GroupsLast, GroupsSettle, DepthDecides, RoundsAreLeast, LowestRepresents}
+use Rattle.unfolding.proofs.Depths.{narrows}
 use Rattle.unfolding.proofs.Marks.{Kinds, both_absent, both_foldable, one_pinned, kinds_present, agree_kinds, stays_stable, decided}
 use Rattle.unfolding.proofs.Classes.{some_stable, rounds_least, rounds_bounded, rounds_stable, rep_alike, rep_foldable, rep_lowest, rep_itself, rep_same, rep_shares}
 use Rattle.unfolding.proofs.Rules.{lawful_rules}

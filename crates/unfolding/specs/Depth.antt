@@ -1,5 +1,5 @@
 -- Unfoldings at a depth, over any mark and any face.
-use Rattle.std.specs.Prelude.{◌≡◌, ℕ, zero, suc, Bool, true, false, ◌&&◌, List, [], ◌∷◌, map, ℤ, pos, negsuc, ◌==◌}
+use Rattle.std.specs.Prelude.{ℕ, zero, suc, Bool, true, false, ◌&&◌, List, [], ◌∷◌, map, ℤ, pos, negsuc, ◌==◌}
 
 -- what a relocation tells besides its target
 pub record Link : Type 0 where

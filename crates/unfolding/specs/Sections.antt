@@ -1,11 +1,11 @@
 -- What unfoldings tell by the rules: the mark is the number of a pinned section and "foldable" of another; the face is flags, alignment
 -- and bytes.
-use Rattle.std.specs.Prelude.{◌≡◌, ℕ, Bool, true, false, ◌&&◌, List, [], Some, None, Option, ◌==◌, nat_eq}
+use Rattle.std.specs.Prelude.{ℕ, Bool, true, false, ◌&&◌, List, [], Some, None, Option, ◌==◌, nat_eq}
 use Rattle.model.specs.declared.Setting.{Setting}
 use Rattle.model.specs.declared.Setting.TheVariants.{Foldable, Pinned}
 use Rattle.model.specs.Graph.{Body, Graph, Present}
-use Rattle.unfolding.specs.Depth.{same_list, Unfolding}
-use Rattle.unfolding.specs.Telling.{Telling, look, AgreeBy, AlikeBy, agrees_by}
+use Rattle.unfolding.specs.Depth.{same_list}
+use Rattle.unfolding.specs.Telling.{Telling, AgreeBy, AlikeBy}
 use Rattle.unfolding.specs.Groups.{StableBy, rounds_by, rep_by, ApartBy, folded_by, merged_by}
 use Rattle.unfolding.specs.Reach.{Reached}
 

@@ -1,5 +1,5 @@
 -- What an unfolding tells of a section besides its relocations: any mark and any face with a test of equality.
-use Rattle.std.specs.Prelude.{◌≡◌, ℕ, Bool, true, false, List, [], map, is_some, Some, None, Decides, Option}
+use Rattle.std.specs.Prelude.{◌≡◌, ℕ, Bool, List, [], map, Some, None, Decides, Option}
 use Rattle.std.specs.Option.{option_map}
 use Rattle.model.specs.declared.Setting.{Setting}
 use Rattle.model.specs.declared.Setting.TheVariants.{Foldable, Pinned}
@@ -7,7 +7,7 @@ use Rattle.model.specs.declared.Target.{Target}
 use Rattle.model.specs.declared.Target.TheVariants.{Section, Outside}
 use Rattle.model.specs.declared.Relocation.{Relocation}
 use Rattle.model.specs.Graph.{Body, Graph, section_of}
-use Rattle.unfolding.specs.Depth.{Link, Told, outside, section, Arm, Shape, Look, Unfolding, unfolding_at, same_unfolding}
+use Rattle.unfolding.specs.Depth.{Told, outside, section, Arm, Shape, Look, unfolding_at, same_unfolding}
 
 -- the mark goes by the section's number and its setting, the face by the section; an absent section has a mark and a face too
 pub record Telling (M F : Type 0) : Type 0 where

@@ -1,4 +1,4 @@
-use Rattle.std.proofs.Common.{◌+◌, ◌-◌, ◌*◌, ◌^◌, ◌<◌, get_or, sym, ◌∙◌, arith}
+use Rattle.std.proofs.Common.{sym, ◌∙◌, arith}
 use Rattle.column.proofs.Reading.{gathered_more, gathered_low, gathered_high, gathered_all, digit_more, powers}
 use Rattle.column.proofs.gather.Goals as goal
 use Rattle.column.proofs.gather.Goals.{then-d-lt48-via-then-d-lt48, then-d-lt48-via-else-d-lt48+then-d-gt57}

@@ -1,7 +1,7 @@
-use Rattle.std.proofs.Common.{◌≡◌, ◌+◌, ◌*◌, length, Some, None, sym, refl, ◌∙◌, arith}
+use Rattle.std.proofs.Common.{◌+◌, ◌*◌, length, Some, None}
 use Rattle.std.proofs.lemmas.Result.{err_from_is_err_and}
 use Rattle.checklist.specs.Checks.{first_fault, each}
-use Rattle.checklist.proofs.Checks.{ok_none, err_some, answer_some, answer_none, each_more, each_found}
+use Rattle.checklist.proofs.Checks.{ok_none, err_some, answer_some, each_more, each_found}
 use Rattle.rules.specs.Rules.{pass_checks, pass_rule}
 use Rattle.reading.proofs.Sections.{pass_found}
 use Rattle.reading.proofs.every_section.Goals as goal

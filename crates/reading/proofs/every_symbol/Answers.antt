@@ -1,7 +1,7 @@
-use Rattle.std.proofs.Common.{◌≡◌, ℕ, ◌+◌, ◌*◌, Some, None, sym, refl, ap, ◌∙◌}
+use Rattle.std.proofs.Common.{ℕ, ◌+◌, ◌*◌, sym, ap, ◌∙◌}
 use Rattle.std.proofs.lemmas.Result.{err_from_is_err_and}
 use Rattle.field.proofs.Read.{read_is}
-use Rattle.checklist.specs.Checks.{Check, first_fault, each}
+use Rattle.checklist.specs.Checks.{first_fault, each}
 use Rattle.checklist.proofs.Checks.{ok_none, err_some, answer_some, each_more, each_found}
 use Rattle.elf.specs.declared.Symbol.{Symbol}
 use Rattle.elf.specs.Layout.{symbol_at}

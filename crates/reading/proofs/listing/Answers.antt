@@ -1,16 +1,14 @@
-use Rattle.std.proofs.Common.{◌≡◌, ℕ, ◌+◌, false, map, length, get_or, replicate, Some, None, Ok, Err, sym, refl, ap, ◌∙◌, arith}
+use Rattle.std.proofs.Common.{ℕ, ◌+◌, false, map, get_or, replicate, Ok, Err, sym, refl, ap, ◌∙◌, arith}
 use Rattle.std.specs.List.{range_with_len}
 use Rattle.std.proofs.lemmas.Result.{err_from_is_err_and}
-use Rattle.field.specs.declared.Number.{Number}
-use Rattle.field.specs.declared.Gathered.TheVariants.{More, Whole}
 use Rattle.field.specs.Uleb.{gathered, none_yet, misshapen}
-use Rattle.checklist.specs.Checks.{first_fault, answer}
+use Rattle.checklist.specs.Checks.{first_fault}
 use Rattle.checklist.proofs.Checks.{ok_none, err_some, answer_some, answer_none}
 use Rattle.elf.specs.declared.Symbol.{Symbol}
 use Rattle.rules.specs.Rules.{symbols, symbol}
 use Rattle.rules.specs.Notes.{listed_in}
-use Rattle.rules.specs.Listing.{items, item_checks, number_checks, marked}
-use Rattle.reading.proofs.Scan.{Scanned, all, began, begun_is, begin, bad_number, goes_on, no_symbol, is_whole, cut_off, all_read, moved}
+use Rattle.rules.specs.Listing.{item_checks, number_checks, marked}
+use Rattle.reading.proofs.Scan.{all, began, begun_is, begin, bad_number, goes_on, no_symbol, is_whole, cut_off, all_read, moved}
 use Rattle.reading.proofs.listing.Goals as goal
 use Rattle.reading.proofs.listing.Goals.{in-More, in-Whole+in_ok-s-in-Whole}
 

@@ -1,4 +1,4 @@
-use Rattle.std.proofs.Common.{◌≡◌, ℕ, ◌+◌, ◌-◌, sym, refl, ap, ◌∙◌, arith}
+use Rattle.std.proofs.Common.{◌≡◌, ◌+◌, ◌-◌, ap, ◌∙◌, arith}
 use Rattle.elf.specs.declared.Header.{Header}
 use Rattle.reading.proofs.Sections.{header_is}
 use Rattle.reading.proofs.Ending.{listing_read}

@@ -1,17 +1,12 @@
-use Rattle.std.proofs.Common.{◌≡◌, ℕ, Some, None, Ok, Err, sym, refl, ap, ◌∙◌, subst, arith}
+use Rattle.std.proofs.Common.{ℕ, Err, sym, ap, ◌∙◌}
 use Rattle.std.proofs.lemmas.Result.{err_from_is_err_and}
 use Rattle.checklist.specs.Checks.{first_fault, each}
 use Rattle.checklist.proofs.Checks.{ok_none, err_some}
-use Rattle.field.specs.Fields.{long}
-use Rattle.field.proofs.Read.{read_is}
 use Rattle.elf.specs.Layout.{sections}
-use Rattle.rules.specs.declared.Pass.TheVariants.{Extents, Contents}
-use Rattle.rules.specs.Rules.{head_rule, pass_rule, only_rule, the_only, first_where, of_kind, table_rule, symbols, relocation_rule}
-use Rattle.rules.specs.Listing.{significance_kind, significance, listing_rule}
-use Rattle.rules.specs.Notes.{parts, marks}
-use Rattle.rules.specs.Verdict.{from_extents, from_contents, from_only_table, from_table, from_relocations, from_only_listing}
-use Rattle.rules.specs.Known.{Headed, Tabled}
-use Rattle.reading.proofs.Ending.{ends_err, ends_on, headed, tabled}
+use Rattle.rules.specs.declared.Pass.TheVariants.{Contents}
+use Rattle.rules.specs.Rules.{pass_rule, only_rule, first_where, of_kind}
+use Rattle.rules.specs.Verdict.{from_only_table, from_table}
+use Rattle.reading.proofs.Ending.{ends_err, ends_on}
 use Rattle.reading.proofs.on_contents.Goals as goal
 
 pub returns-in_err-every_section : goal.returns-in_err-every_section

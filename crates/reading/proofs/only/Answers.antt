@@ -1,6 +1,6 @@
-use Rattle.std.proofs.Common.{◌≡◌, ◌+◌, ◌*◌, eqb, Some, None, sym, refl, ap, ◌∙◌}
+use Rattle.std.proofs.Common.{◌+◌, ◌*◌, eqb, sym, ap, ◌∙◌}
 use Rattle.std.proofs.lemmas.Result.{err_from_is_err_and}
-use Rattle.checklist.specs.Checks.{Check, first_fault, each}
+use Rattle.checklist.specs.Checks.{first_fault, each}
 use Rattle.checklist.proofs.Checks.{ok_none, err_some, answer_some, each_more, each_found}
 use Rattle.rules.specs.Rules.{only_checks, only_rule, first_where, of_kind, earlier}
 use Rattle.reading.proofs.Firsts.{only_turn}

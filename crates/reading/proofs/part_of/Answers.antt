@@ -1,10 +1,9 @@
-use Rattle.std.proofs.Common.{◌≡◌, ℕ, ◌+◌, ◌*◌, ◌/◌, Some, None, Ok, sym, refl, ap, ◌∙◌, arith}
+use Rattle.std.proofs.Common.{◌+◌, ◌*◌, ◌/◌, Some, sym, ◌∙◌, arith}
 use Rattle.std.proofs.lemmas.Result.{err_from_is_err_and}
-use Rattle.checklist.specs.Checks.{first_fault, answer}
+use Rattle.checklist.specs.Checks.{first_fault}
 use Rattle.checklist.proofs.Checks.{ok_none, err_some, answer_some, answer_none}
 use Rattle.elf.specs.Layout.{place, section}
 use Rattle.rules.specs.Rules.{part_checks, fit_checks, told_part}
-use Rattle.rules.specs.declared.Part.{Part}
 use Rattle.reading.proofs.Parts.{part_turn}
 use Rattle.reading.proofs.part_of.Goals as goal
 

@@ -1,9 +1,8 @@
-use Rattle.std.proofs.Common.{◌≡◌, ℕ, ◌+◌, ◌*◌, ◌<◌, ◌≤◌, map, length, Some, None, Ok, Err, sym, refl, ap, ◌∙◌, arith}
+use Rattle.std.proofs.Common.{◌≡◌, ℕ, ◌+◌, ◌*◌, map, Ok, Err, sym, ap, ◌∙◌, arith}
 use Rattle.std.specs.List.{range_with_len}
-use Rattle.std.proofs.lemmas.List.FromFn.{fill_by_all}
-use Rattle.checklist.specs.Checks.{first_fault, each, answer}
+use Rattle.checklist.specs.Checks.{first_fault, each}
 use Rattle.checklist.proofs.Checks.{ok_none, err_some, answer_some, answer_none}
-use Rattle.elf.specs.Layout.{sections, entry_at}
+use Rattle.elf.specs.Layout.{entry_at}
 use Rattle.rules.specs.Rules.{relocation_rule, entry_checks}
 use Rattle.rules.specs.Notes.{part_note}
 use Rattle.reading.proofs.Parting.{part_ends}

@@ -1,8 +1,3 @@
-use Rattle.std.proofs.Common.{◌≡◌, ◌+◌, length, Some, None}
-use Rattle.checklist.specs.Checks.{first_fault, each}
-use Rattle.elf.specs.Layout.{place, section}
-use Rattle.rules.specs.Known.{Parted}
-use Rattle.rules.specs.Rules.{relocation_rule, part_checks, told_part, entry_rule}
 use Rattle.reading.proofs.Turns.{Between, Within}
 use Rattle.reading.proofs.relocations.Given as goal
 

@@ -1,4 +1,4 @@
-use Rattle.std.proofs.Common.{◌≡◌, ◌+◌, set, sym, ap, ◌∙◌, arith}
+use Rattle.std.proofs.Common.{◌+◌, set, sym, ap, ◌∙◌, arith}
 use Rattle.elf.specs.Layout.{root}
 use Rattle.reading.proofs.Sections.{header_is}
 use Rattle.reading.proofs.Rooting.{root_more, root_same, moved}

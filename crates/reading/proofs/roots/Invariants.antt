@@ -1,4 +1,4 @@
-use Rattle.std.proofs.Common.{◌≡◌, ◌≤◌, length}
+use Rattle.std.proofs.Common.{◌≡◌, length}
 use Rattle.rules.specs.Known.{Rooted}
 use Rattle.reading.proofs.roots.Given as goal
 

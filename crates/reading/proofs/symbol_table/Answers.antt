@@ -1,5 +1,4 @@
-use Rattle.std.proofs.Common.{◌≡◌, sym, refl, ap, ◌∙◌, arith}
-use Rattle.elf.specs.Layout.{section}
+use Rattle.std.proofs.Common.{sym, ◌∙◌, arith}
 use Rattle.reading.proofs.Firsts.{only_is, extent_is}
 use Rattle.reading.proofs.symbol_table.Goals as goal
 

@@ -1,4 +1,4 @@
-use Rattle.std.proofs.Common.{◌≡◌, ℕ, sym, ◌∙◌, arith}
+use Rattle.std.proofs.Common.{sym, arith}
 use Rattle.row.proofs.Letters.{other_letter}
 use Rattle.row.proofs.row_at.Goals as goal
 

@@ -1,4 +1,4 @@
-use Rattle.std.proofs.Common.{◌≡◌, ◌^◌, sym, refl, ap, ◌∙◌, pow-suc, add-one, arith}
+use Rattle.std.proofs.Common.{sym, refl, ◌∙◌, add-one, arith}
 use Rattle.row_part.proofs.Powers.{power_none, power_more, power_found}
 use Rattle.row_part.proofs.is_alignment.Goals as goal
 

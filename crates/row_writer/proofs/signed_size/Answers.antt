@@ -1,4 +1,4 @@
-use Rattle.std.proofs.Common.{◌≡◌, length, decimal, ap, ◌∙◌, arith, w64}
+use Rattle.std.proofs.Common.{length, decimal, ap, ◌∙◌, arith, w64}
 use Rattle.std.proofs.lemmas.Int.{to_z-of_z}
 use Rattle.row_writer.proofs.Widths.{negative_size, positive_size}
 use Rattle.row_writer.proofs.signed_size.Goals as goal

@@ -1,5 +1,5 @@
-use Rattle.std.proofs.Common.{◌≡◌, sym, subst, arith}
-use Rattle.row_writer.specs.Writing.{Wide, value}
+use Rattle.std.proofs.Common.{arith}
+use Rattle.row_writer.specs.Writing.{value}
 use Rattle.row_writer.proofs.Widths.{wide_due, wide_needed}
 use Rattle.row_writer.proofs.width_of.Goals as goal
 

@@ -1,4 +1,4 @@
-use Rattle.std.proofs.Common.{◌≡◌, ◌∙◌, arith}
+use Rattle.std.proofs.Common.{◌∙◌, arith}
 use Rattle.summary.proofs.Sums.{sums_none, sums_more, sums_all, one_or_none}
 use Rattle.summary.proofs.tally.Goals as goal
 

@@ -1,4 +1,4 @@
-use Rattle.std.proofs.Common.{◌≡◌, ℕ, ◌+◌, ◌-◌, ◌<◌, ◌≤◌, min, List, ◌++◌, length, take, drop, sym, refl, ◌∙◌, arith, rules}
+use Rattle.std.proofs.Common.{◌≡◌, ℕ, ◌+◌, ◌-◌, ◌<◌, ◌≤◌, min, List, ◌++◌, length, take, drop, refl, arith, rules}
 use Rattle.model.specs.Graph.{section_of}
 use Rattle.row.specs.Entry.{render, bytes}
 use Rattle.table_writer.specs.Texts.{bytes_in, bytes_text}

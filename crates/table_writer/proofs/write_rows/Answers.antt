@@ -1,6 +1,5 @@
-use Rattle.std.proofs.Common.{◌≡◌, ℕ, ◌+◌, ◌-◌, ◌≤◌, List, [], ◌++◌, length, sym, ap, ◌∙◌, rules}
+use Rattle.std.proofs.Common.{◌+◌, ◌-◌, ◌≤◌, [], ◌++◌, length, rules}
 use borrow.Rule.Slice.PartMut.{put_mid}
-use Rattle.row.specs.Entry.{render, header}
 use Rattle.layout.specs.Layout.{text_of}
 use Rattle.table_writer.specs.Texts.{sections_text, closing_text}
 use Rattle.table_writer.proofs.Fronts.{Written, first, first_accepted, lent_room, accepted, ends_inside, next, inside, finish}

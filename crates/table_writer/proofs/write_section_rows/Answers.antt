@@ -1,7 +1,6 @@
-use Rattle.std.proofs.Common.{◌≡◌, ℕ, ◌+◌, ◌-◌, ◌≤◌, List, [], ◌++◌, length, sym, ap, ◌∙◌, rules}
+use Rattle.std.proofs.Common.{◌+◌, ◌-◌, ◌≤◌, [], ◌++◌, length, sym, rules}
 use borrow.Rule.Slice.PartMut.{put_mid}
 use Rattle.model.specs.Graph.{section_of}
-use Rattle.row.specs.Entry.{render, section}
 use Rattle.table_writer.specs.Texts.{bytes_in, relocations_in, bytes_text, relocations_text, section_text}
 use Rattle.table_writer.proofs.Fronts.{Written, first, first_accepted, lent_room, accepted, ends_inside, next, inside, finish}
 use Rattle.table_writer.proofs.Texts.{section_told}

@@ -1,5 +1,5 @@
-use Rattle.std.proofs.Common.{◌≡◌, ℕ, ◌+◌, ◌<◌, ◌≤◌, List, ◌++◌, length, get_or, drop, None, Option, sym, refl, ◌∙◌, arith, rules}
-use Rattle.model.specs.Graph.{Body, section_of}
+use Rattle.std.proofs.Common.{ℕ, ◌+◌, ◌<◌, ◌≤◌, List, ◌++◌, length, get_or, drop, None, Option, sym, refl, ◌∙◌, arith, rules}
+use Rattle.model.specs.Graph.{Body}
 use Rattle.table_writer.specs.Texts.{section_text, sections_text}
 use Rattle.table_writer.proofs.Fronts.{Written, lent_room, accepted, ends_inside, next, inside, finish, restated}
 use Rattle.table_writer.proofs.Texts.{sections_more, sections_all, section_absent}

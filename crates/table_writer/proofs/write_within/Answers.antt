@@ -1,4 +1,4 @@
-use Rattle.std.proofs.Common.{◌≡◌, Err, sym, ap, ◌∙◌, arith}
+use Rattle.std.proofs.Common.{Err, sym, ap, ◌∙◌, arith}
 use Rattle.layout.specs.Layout.{text_of}
 use Rattle.row_writer.specs.Writing.{small}
 use Rattle.row_writer.proofs.Puts.{wrote_short, put_short}

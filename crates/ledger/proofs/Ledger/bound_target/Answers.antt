@@ -1,4 +1,4 @@
-use Rattle.std.proofs.Common.{sym, ap, ◌∙◌, arith}
+use Rattle.std.proofs.Common.{sym, ap, ◌∙◌}
 use Rattle.ledger.specs.Told.{bound_by}
 use Rattle.ledger.proofs.Binds.{bound_section, bound_found, bound_missing}
 use Rattle.ledger.proofs.Ledger.bound_target.Goals as goal

@@ -1,4 +1,4 @@
-use Rattle.std.proofs.Common.{sym, ap, ◌∙◌}
+use Rattle.std.proofs.Common.{sym, ◌∙◌}
 use Rattle.ledger.proofs.Asking.{told_count}
 use Rattle.pile.proofs.Pile.seen_count.Goals as goal
 

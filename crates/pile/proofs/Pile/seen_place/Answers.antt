@@ -1,4 +1,4 @@
-use Rattle.std.proofs.Common.{sym, ap, ◌∙◌}
+use Rattle.std.proofs.Common.{sym, ◌∙◌}
 use Rattle.ledger.specs.Answers.{placed}
 use Rattle.ledger.proofs.Asking.{tells_place}
 use Rattle.pile.proofs.Pile.seen_place.Goals as goal

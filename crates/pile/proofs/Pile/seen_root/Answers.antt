@@ -1,4 +1,4 @@
-use Rattle.std.proofs.Common.{sym, ap, ◌∙◌}
+use Rattle.std.proofs.Common.{sym, ◌∙◌}
 use Rattle.ledger.specs.Answers.{seen_root}
 use Rattle.ledger.proofs.Asking.{tells_root}
 use Rattle.pile.proofs.Pile.seen_root.Goals as goal

@@ -1,4 +1,4 @@
-use Rattle.std.proofs.Common.{◌<◌, ◌≤◌, ap, ◌∙◌, arith}
+use Rattle.std.proofs.Common.{◌<◌, ap, ◌∙◌, arith}
 use Rattle.slots.specs.declared.Slots.{Slots}
 use Rattle.slots.specs.Turns.{stays, drops, dropped_slot}
 use Rattle.slots.proofs.Turning.{turned_full, kept_small, gone_small, drop_absent, drop_stays, drop_goes}

@@ -1,4 +1,4 @@
-use Rattle.slots.specs.Turns.{stays, drops, dropped_slot, leads, joins, joined_slot, Turned}
+use Rattle.slots.specs.Turns.{stays, drops, dropped_slot, Turned}
 use Rattle.slots.proofs.Slots.drop_unreached.Given as goal
 
 abbrev pub invariant-loop-s : goal.invariant-loop-s

@@ -1,4 +1,4 @@
-use Rattle.std.proofs.Common.{◌<◌, ◌≤◌, ap, ◌∙◌, arith}
+use Rattle.std.proofs.Common.{◌<◌, ap, ◌∙◌, arith}
 use Rattle.slots.specs.declared.Slots.{Slots}
 use Rattle.slots.specs.Turns.{leads, joins, joined_slot}
 use Rattle.slots.proofs.Turning.{turned_full, kept_small, gone_small, join_absent, join_stays, join_goes}

@@ -1,9 +1,9 @@
-use Rattle.std.proofs.Common.{◌≡◌, ℕ, ◌+◌, ◌≤◌, Bool, cond, List, length, drop, Some, None, Ok, Err, sym, ap, ◌∙◌, subst}
+use Rattle.std.proofs.Common.{◌≡◌, ℕ, ◌+◌, Bool, cond, length, drop, Some, Ok, sym, ap, ◌∙◌}
 use Rattle.std.proofs.lemmas.List.{take_rest}
 use Rattle.lines.specs.Lines.{lines}
 use Rattle.row.specs.Reading.{read_row}
 use Rattle.row.specs.Entry.{render}
-use Rattle.row.specs.Told.{told, part_of}
+use Rattle.row.specs.Told.{told}
 use Rattle.table.specs.Notes.{loose_from}
 use Rattle.table.proofs.Scans.{loose_refused, loose_row, loose_end, row_fits}
 use Rattle.table.proofs.scan.dangling.Goals as goal

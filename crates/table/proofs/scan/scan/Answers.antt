@@ -1,4 +1,4 @@
-use Rattle.std.proofs.Common.{◌≡◌, Bool, cond, Ok, Err, sym, ap, ◌∙◌}
+use Rattle.std.proofs.Common.{Bool, cond, Ok, Err, sym, ap, ◌∙◌}
 use Rattle.layout.specs.Reading.{bad_row_at}
 use Rattle.table.proofs.Scans.{scan_end}
 use Rattle.table.proofs.scan.scan.Goals as goal

@@ -1,9 +1,8 @@
-use Rattle.std.proofs.Common.{◌≡◌, ℕ, ◌+◌, List, length, drop, Some, None, Ok, Err, sym, ap, ◌∙◌}
+use Rattle.std.proofs.Common.{◌≡◌, length, drop, Ok, sym, ap, ◌∙◌}
 use Rattle.std.proofs.lemmas.List.{take_rest}
 use Rattle.row.specs.Reading.{read_row}
 use Rattle.row.specs.Entry.{render}
-use Rattle.row.specs.Told.{told, part_of}
-use Rattle.layout.specs.Order.{step}
+use Rattle.row.specs.Told.{told}
 use Rattle.table.proofs.Scans.{refused_row, refused_step, taken_row}
 use Rattle.table.proofs.scan.take_row.Goals as goal
 

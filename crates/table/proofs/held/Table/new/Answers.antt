@@ -1,4 +1,4 @@
-use Rattle.std.proofs.Common.{◌≡◌, ℕ, true, List, [], vec_items, sym, ◌∙◌, subst}
+use Rattle.std.proofs.Common.{◌≡◌, ℕ, true, List, vec_items, sym, subst}
 use Rattle.table.specs.Held.{held}
 use Rattle.table.specs.Notes.{no_notes}
 use Rattle.table.specs.Outcomes.{held_none}

@@ -1,4 +1,4 @@
-use Rattle.std.proofs.Common.{◌≡◌, ℕ, List, Ok, Err, vec_items, Option, sym, ap, ◌∙◌}
+use Rattle.std.proofs.Common.{ℕ, List, Err, vec_items, Option, sym, ap, ◌∙◌}
 use Rattle.std.proofs.lemmas.Result.{err_from_is_err_and}
 use Rattle.fault.specs.declared.Fault.{Fault}
 use Rattle.layout.proofs.Texts.{verdict_stands}

@@ -1,6 +1,6 @@
-use Rattle.std.proofs.Common.{◌≡◌, ℕ, List, vec_items, sym, ap, ◌∙◌, subst}
+use Rattle.std.proofs.Common.{ℕ, List, vec_items, ap, ◌∙◌}
 use Rattle.row.specs.Reading.{read_row}
-use Rattle.table.specs.Places.{sections_told, roots_told, record_told, byte_in, relocation_in, root_in}
+use Rattle.table.specs.Places.{record_told, relocation_in}
 use Rattle.table.specs.Answering.{relocation_held}
 use Rattle.table.proofs.held.reader.TableSectionGraph.relocation.Goals as goal
 
