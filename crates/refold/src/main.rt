@@ -2,10 +2,10 @@
 
 #![tactic(auto)]
 
-use anyhow::anyhow;
 use refolding::refold;
 use std::io;
 use std::io::{Read, Write};
+use std::process::ExitCode;
 
 // The text on standard input, but for what stands behind the first byte too many.
 fn load(rt: &HostRuntime) -> io::Result<Vec<u8>> {
@@ -14,12 +14,12 @@ fn load(rt: &HostRuntime) -> io::Result<Vec<u8>> {
     Ok(text)
 }
 
-fn main(rt: HostRuntime) -> anyhow::Result<()> {
+fn main(rt: HostRuntime) -> anyhow::Result<ExitCode> {
     let output = refold(rt.alloc(), load(&rt)?)?;
     rt.stdout().write_all(output.text.as_slice())?;
     if output.refused {
-        Err(anyhow!("refused"))
+        Ok(ExitCode::FAILURE)
     } else {
-        Ok(())
+        Ok(ExitCode::SUCCESS)
     }
 }

@@ -13,6 +13,7 @@ mod table_of;
 use anyhow::anyhow;
 use options::{Options, read_options};
 use std::env;
+use std::process::ExitCode;
 
 const HELP: &str = "usage: yilmacrab check [FILE]
        yilmacrab table [FILE] [-o TABLE]
@@ -52,12 +53,12 @@ fn run(rt: &HostRuntime) -> anyhow::Result<()> {
     }
 }
 
-fn main(rt: HostRuntime) -> anyhow::Result<()> {
+fn main(rt: HostRuntime) -> ExitCode {
     match run(&rt) {
-        Ok(()) => Ok(()),
+        Ok(()) => ExitCode::SUCCESS,
         Err(error) => {
-            eprintln!(rt; "yilmacrab: {error}")?;
-            Err(error)
+            let _ = eprintln!(rt; "yilmacrab: {error}");
+            ExitCode::FAILURE
         }
     }
 }
