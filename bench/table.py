@@ -1,12 +1,12 @@
 #!/usr/bin/env python3
 """Times `yilmacrab check` on a table of 6 MB and on one of 60 MB, and prints the ratio.
 
-Run from the root of the repository, after `rt check yilmacrab`: bench/table.py
+Run from the root of the repository, once the program is built (in crates/yilmacrab: rt run -- --help): bench/table.py
 The work should grow with the text, so the ratio should be near that of the sizes.
 """
 import os, subprocess, sys, tempfile, time
 
-PROGRAM = "target/bin/yilmacrab"
+PROGRAM = "crates/yilmacrab/out/yilmacrab"
 
 
 def row(letter, *numbers, width=12):
@@ -37,7 +37,7 @@ def seconds(path):
 
 def main():
     if not os.path.exists(PROGRAM):
-        sys.exit("build it first: rt check yilmacrab")
+        sys.exit("build it first, in crates/yilmacrab: rt run -- --help")
     with tempfile.TemporaryDirectory() as folder:
         small = os.path.join(folder, "small")
         large = os.path.join(folder, "large")
