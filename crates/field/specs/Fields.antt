@@ -1,6 +1,6 @@
 -- Little-endian fields at a place of a list of bytes.
 use Rattle.std.specs.Prelude.{ℕ, ◌+◌, ◌*◌, cond, List, length, ℤ, Ok, Err, Result, nat_le, slice_index}
-use Rattle.std.proofs.Common.{to_z}
+use Rattle.std.specs.Int.{cast_signed}
 use Rattle.std.specs.Int.{w64}
 use Rattle.fault.specs.declared.Fault.{Fault}
 use Rattle.fault.specs.declared.Kind.TheVariants.{Short}
@@ -20,7 +20,7 @@ long b p = word b p + 4294967296 * word b (p + 4)
 
 -- 64 bits with a sign, in two's complement
 abbrev pub signed : List ℕ → ℕ → ℤ
-signed b p = to_z w64 (long b p)
+signed b p = cast_signed w64 (long b p)
 
 -- the refusal of a field that runs past the end: its place is the length
 abbrev pub short : List ℕ → Fault

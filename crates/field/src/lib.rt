@@ -124,7 +124,8 @@ pub fn misshapen(first: u64) -> Fault
 
 // What the digit `d` of a ULEB128 number counts, by the number of digits before it.
 fn digit(d: u8, before: u8) -> u32
-    requires { (d < 128) × ((4 ≤ before → d < 16)) }
+    requires small { d < 128 }
+    requires last { 4 ≤ before → d < 16 }
     ensures { result ≡ d * 128 ^ min before 4 }
 {
     let n = d as u32;

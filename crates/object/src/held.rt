@@ -17,8 +17,8 @@ pub struct Object {
     // no file, or one that meets every rule
     ghost met: { held_file file.items ≡ true },
     // the notes are those of the file
-    ghost begun: { notes.symbols.from ≡ (symbols_in (file.items)).from },
-    ghost counted: { notes.symbols.count ≡ (symbols_in (file.items)).count },
+    ghost begun: { notes.symbols.from ≡ (symbols_in file.items).from },
+    ghost counted: { notes.symbols.count ≡ (symbols_in file.items).count },
     ghost parted: { notes.parts ≡ parts_in file.items },
     ghost signed: { notes.significant ≡ is_some (significance_in file.items) },
     ghost marked: { notes.listed ≡ marks_in file.items },

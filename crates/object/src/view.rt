@@ -41,7 +41,9 @@ pub fn header(b: &[u8], s: u16) -> Option<Header>
 
 // The header of the section with the relocations of section `s`, where there is one.
 pub fn part_header(b: &[u8], x: &Notes, s: u16) -> Option<Header>
-    requires { (held b.now ≡ true) × ((Kept b.now x.now) × (s < sections b.now)) }
+    requires held { held b.now ≡ true }
+    requires kept { Kept b.now x.now }
+    requires below { s < sections b.now }
     ensures { result ≡ header_of b.now (part b.now s (sections b.now)) }
 {
     let r = x.parts[s as usize];
@@ -68,7 +70,9 @@ pub fn setting(x: &Notes, s: u16, h: Header) -> Setting
 
 // How many relocations section `s` has.
 pub fn relocation_count(b: &[u8], x: &Notes, s: u16) -> u16
-    requires { (held b.now ≡ true) × ((Kept b.now x.now) × (s < sections b.now)) }
+    requires held { held b.now ≡ true }
+    requires kept { Kept b.now x.now }
+    requires below { s < sections b.now }
     ensures { result ≡ length (relocations_in b.now (part b.now s (sections b.now))) }
 {
     match part_header(b, x, s) {
@@ -79,7 +83,8 @@ pub fn relocation_count(b: &[u8], x: &Notes, s: u16) -> u16
 
 // What is told of section `s`.
 pub fn record_of(b: &[u8], x: &Notes, s: u16) -> Option<Record>
-    requires { (held b.now ≡ true) × (Kept b.now x.now) }
+    requires held { held b.now ≡ true }
+    requires kept { Kept b.now x.now }
     ensures { result ≡ record_of (meaning b.now) s }
 {
     match header(b, s) {
@@ -142,8 +147,11 @@ pub fn told(y: Symbol, e: Entry) -> Relocation
 
 // The relocation of the entry at `q`, the `j`th of those at `from`.
 pub fn relocation_at(b: &[u8], x: &Notes, q: u64) -> Option<Relocation>
-    requires kept { (Kept b.now x.now) × ((q + 24 ≤ length b.now) × ((entry_in b.now q).symbol < (symbols b.now).count)) }
-    requires b_in_bounds { ((symbols b.now).from + 24 * (symbols b.now).count ≤ length b.now) × (Told (symbol b.now (entry_in b.now q).symbol) (entry_in b.now q)) }
+    requires kept { Kept b.now x.now }
+    requires inside { q + 24 ≤ length b.now }
+    requires symbol { (entry_in b.now q).symbol < (symbols b.now).count }
+    requires symbols { (symbols b.now).from + 24 * (symbols b.now).count ≤ length b.now }
+    requires told { Told (symbol b.now (entry_in b.now q).symbol) (entry_in b.now q) }
     ensures { result ≡ Some (relocation_of_entry (symbol b.now (entry_in b.now q).symbol) (entry_in b.now q)) }
 {
     match read_entry(b, q) {
@@ -157,7 +165,8 @@ pub fn relocation_at(b: &[u8], x: &Notes, q: u64) -> Option<Relocation>
 
 // Relocation `j` of section `s`.
 pub fn relocation(b: &[u8], x: &Notes, s: u16, j: u16) -> Option<Relocation>
-    requires { (held b.now ≡ true) × (Kept b.now x.now) }
+    requires held { held b.now ≡ true }
+    requires kept { Kept b.now x.now }
     ensures { result ≡ relocation_of (meaning b.now) s j }
 {
     match header(b, s) {

@@ -245,7 +245,7 @@ impl<G: SectionGraph> Pile<G> {
         requires open { refusal (told (G.SectionGraph.graph self.old.below) self.old.table) (Bind name section) ≡ None }
         ensures sound { Sound (G.SectionGraph.sound self.new.below) (G.SectionGraph.graph self.new.below) self.new.table }
         ensures over { self.new.below ≡ self.old.below }
-        ensures does { Does (G.SectionGraph.graph self.old.below) self.old.table self.new.table (Bind name section) (Accepted) }
+        ensures does { Does (G.SectionGraph.graph self.old.below) self.old.table self.new.table (Bind name section) Accepted }
     {
         self.table.bind(name, section);
     }
@@ -268,7 +268,7 @@ impl<G: SectionGraph> Pile<G> {
         requires open { refusal (told (G.SectionGraph.graph self.old.below) self.old.table) (Pin section) ≡ None }
         ensures sound { Sound (G.SectionGraph.sound self.new.below) (G.SectionGraph.graph self.new.below) self.new.table }
         ensures over { self.new.below ≡ self.old.below }
-        ensures does { Does (G.SectionGraph.graph self.old.below) self.old.table self.new.table (Pin section) (Accepted) }
+        ensures does { Does (G.SectionGraph.graph self.old.below) self.old.table self.new.table (Pin section) Accepted }
     {
         self.table.pin(section);
     }
@@ -291,7 +291,7 @@ impl<G: SectionGraph> Pile<G> {
         requires open { refusal (told (G.SectionGraph.graph self.old.below) self.old.table) (Root section) ≡ None }
         ensures sound { Sound (G.SectionGraph.sound self.new.below) (G.SectionGraph.graph self.new.below) self.new.table }
         ensures over { self.new.below ≡ self.old.below }
-        ensures does { Does (G.SectionGraph.graph self.old.below) self.old.table self.new.table (Root section) (Accepted) }
+        ensures does { Does (G.SectionGraph.graph self.old.below) self.old.table self.new.table (Root section) Accepted }
     {
         self.table.add_root(section);
     }
@@ -364,7 +364,7 @@ impl<G: SectionGraph> Pile<G> {
         requires { Sound (G.SectionGraph.sound self.old.below) (G.SectionGraph.graph self.old.below) self.old.table }
         ensures sound { Sound (G.SectionGraph.sound self.new.below) (G.SectionGraph.graph self.new.below) self.new.table }
         ensures over { self.new.below ≡ self.old.below }
-        ensures does { Does (G.SectionGraph.graph self.old.below) self.old.table self.new.table call (result) }
+        ensures does { Does (G.SectionGraph.graph self.old.below) self.old.table self.new.table call result }
     {
         match call {
             Call::Bind { name, section } => answered(self.bind(name, section)),

@@ -52,7 +52,7 @@ fn only(b: &[u8], first: u64, n: u16, kind: u32) -> Result<Option<u16>, Fault>
 // The symbols, which start at `from`.
 fn every_symbol(b: &[u8], first: u64, n: u16, from: u64, count: u32) -> Result<(), Fault>
     requires headed { Headed b.now first n }
-    requires count_in_bounds { from + 24 * count ≤ length b.now }
+    requires inside { from + 24 * count ≤ length b.now }
     ensures { result ≡ answer (first_fault (each (symbol_rule b.now from) count)) tt }
 {
     for j in 0..count {
@@ -66,7 +66,8 @@ fn every_symbol(b: &[u8], first: u64, n: u16, from: u64, count: u32) -> Result<(
 // The symbol table, which is section `t`.
 fn symbols_at(b: &[u8], first: u64, n: u16, t: u16) -> Result<Symbols, Fault>
     requires headed { Headed b.now first n }
-    requires t_lt_n { (t < n) × ((section_in b.now t).offset + (section_in b.now t).size ≤ length b.now) }
+    requires below { t < n }
+    requires inside { (section_in b.now t).offset + (section_in b.now t).size ≤ length b.now }
     ensures { result ≡ answer (first_fault (table_rule_of b.now (Some t))) (symbols_of b.now (Some t)) }
 {
     let p = first + 64 * t as u64;
@@ -82,7 +83,8 @@ fn symbols_at(b: &[u8], first: u64, n: u16, t: u16) -> Result<Symbols, Fault>
 // The symbol table, where there is one.
 fn symbol_table(b: &[u8], first: u64, n: u16, found: Option<u16>) -> Result<Symbols, Fault>
     requires headed { Headed b.now first n }
-    requires found_value { (found ≡ table_in b.now) × (first_fault (each (pass_rule Extents b.now) n) ≡ None) }
+    requires found { found ≡ table_in b.now }
+    requires extents { first_fault (each (pass_rule Extents b.now) n) ≡ None }
     ensures { result ≡ answer (first_fault (table_rule b.now)) (symbols_in b.now) }
 {
     match found {
@@ -101,7 +103,9 @@ fn part_of(
     i: u16,
 ) -> Result<Option<Part>, Fault>
     requires headed { Headed b.now first n }
-    requires i_lt_n { (i < n) × ((found ≡ table_in b.now) × (Parted b.now i parts.now)) }
+    requires below { i < n }
+    requires found { found ≡ table_in b.now }
+    requires parted { Parted b.now i parts.now }
     ensures { result ≡ answer (first_fault (part_checks b.now i (place b.now i) (section_in b.now i))) (told_part b.now (section_in b.now i)) }
 {
     let p = first + 64 * i as u64;
@@ -136,7 +140,9 @@ fn relocations(
     symbols: Symbols,
 ) -> Result<[u16; 1024], Fault>
     requires headed { Headed b.now first n }
-    requires found_value { (found ≡ table_in b.now) × ((Tabled b.now symbols) × (first_fault (each (pass_rule Extents b.now) n) ≡ None)) }
+    requires found { found ≡ table_in b.now }
+    requires tabled { Tabled b.now symbols }
+    requires extents { first_fault (each (pass_rule Extents b.now) n) ≡ None }
     ensures { result ≡ answer (first_fault (each (relocation_rule b.now) n)) (map (part_note b.now n) (range_with_len 0 1024)) }
 {
     let mut parts: [u16; 1024] = [65535; 1024];
@@ -170,7 +176,8 @@ fn relocations(
 
 // The address-significance table, whose bytes start at the place `base`: in which sections it lists a symbol.
 fn listing(b: &[u8], symbols: Symbols, base: u64, bytes: &[u8]) -> Result<[bool; 1024], Fault>
-    requires { (Tabled b.now symbols) × (base + length bytes.now < 18446744073709551616) }
+    requires tabled { Tabled b.now symbols }
+    requires fits { base + length bytes.now < 18446744073709551616 }
     ensures { result ≡ answer (first_fault (item_checks (symbols_in b.now).count (items (Some 0) base bytes.now))) (map (listed_in b.now (items (Some 0) base bytes.now)) (range_with_len 0 1024)) }
 {
     let mut marks = [false; 1024];
@@ -196,7 +203,9 @@ fn listing(b: &[u8], symbols: Symbols, base: u64, bytes: &[u8]) -> Result<[bool;
 // The address-significance table, which is section `a`.
 fn listing_at(b: &[u8], first: u64, n: u16, a: u16, symbols: Symbols) -> Result<[bool; 1024], Fault>
     requires headed { Headed b.now first n }
-    requires tabled { (Tabled b.now symbols) × ((a < n) × ((section_in b.now a).offset + (section_in b.now a).size ≤ length b.now)) }
+    requires tabled { Tabled b.now symbols }
+    requires below { a < n }
+    requires inside { (section_in b.now a).offset + (section_in b.now a).size ≤ length b.now }
     ensures { result ≡ answer (first_fault (item_checks (symbols_in b.now).count (listing_of b.now (Some a)))) (map (listed_in b.now (listing_of b.now (Some a))) (range_with_len 0 1024)) }
 {
     let h = read_header(b, first + 64 * a as u64)?;
@@ -213,7 +222,9 @@ fn significance(
     symbols: Symbols,
 ) -> Result<[bool; 1024], Fault>
     requires headed { Headed b.now first n }
-    requires found_value { (found ≡ significance_in b.now) × ((Tabled b.now symbols) × (first_fault (each (pass_rule Extents b.now) n) ≡ None)) }
+    requires found { found ≡ significance_in b.now }
+    requires tabled { Tabled b.now symbols }
+    requires extents { first_fault (each (pass_rule Extents b.now) n) ≡ None }
     ensures { result ≡ answer (first_fault (listing_rule b.now)) (marks_in b.now) }
 {
     match found {
@@ -248,7 +259,9 @@ fn on_listing(
     parts: [u16; 1024],
 ) -> Result<Notes, Fault>
     requires headed { Headed b.now first n }
-    requires parts_value { (parts ≡ parts_in b.now) × ((Tabled b.now symbols) × (first_fault (each (pass_rule Extents b.now) n) ≡ None)) }
+    requires parts { parts ≡ parts_in b.now }
+    requires tabled { Tabled b.now symbols }
+    requires extents { first_fault (each (pass_rule Extents b.now) n) ≡ None }
     ensures { Ends b.now (from_only_listing b.now) result }
 {
     let table = only(b, first, n, 0x6fff4c03)?;
@@ -273,7 +286,9 @@ fn on_relocations(
     symbols: Symbols,
 ) -> Result<Notes, Fault>
     requires headed { Headed b.now first n }
-    requires found_value { (found ≡ table_in b.now) × ((Tabled b.now symbols) × (first_fault (each (pass_rule Extents b.now) n) ≡ None)) }
+    requires found { found ≡ table_in b.now }
+    requires tabled { Tabled b.now symbols }
+    requires extents { first_fault (each (pass_rule Extents b.now) n) ≡ None }
     ensures { Ends b.now (from_relocations b.now) result }
 {
     let parts = relocations(b, first, n, found, symbols)?;
@@ -283,7 +298,8 @@ fn on_relocations(
 // The symbol table, and what comes after it.
 fn on_table(b: &[u8], first: u64, n: u16, found: Option<u16>) -> Result<Notes, Fault>
     requires headed { Headed b.now first n }
-    requires found_value { (found ≡ table_in b.now) × (first_fault (each (pass_rule Extents b.now) n) ≡ None) }
+    requires found { found ≡ table_in b.now }
+    requires extents { first_fault (each (pass_rule Extents b.now) n) ≡ None }
     ensures { Ends b.now (from_table b.now) result }
 {
     let symbols = symbol_table(b, first, n, found)?;
@@ -293,7 +309,7 @@ fn on_table(b: &[u8], first: u64, n: u16, found: Option<u16>) -> Result<Notes, F
 // The present sections, and what comes after them.
 fn on_contents(b: &[u8], first: u64, n: u16) -> Result<Notes, Fault>
     requires headed { Headed b.now first n }
-    requires n_value { first_fault (each (pass_rule Extents b.now) n) ≡ None }
+    requires extents { first_fault (each (pass_rule Extents b.now) n) ≡ None }
     ensures { Ends b.now (from_contents b.now) result }
 {
     every_section(b, first, n, Pass::Contents)?;

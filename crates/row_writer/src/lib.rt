@@ -77,7 +77,8 @@ fn fill(number: Number, out: &mut [u8])
 
 // How long the columns of some numbers are.
 fn columns_length(width: usize, numbers: &[Number]) -> usize
-    requires { (width ≤ 12) × (length numbers.now ≤ 8) }
+    requires narrow { width ≤ 12 }
+    requires few { length numbers.now ≤ 8 }
     ensures long { result ≡ length (columns width (map value numbers.now)) }
     ensures few { result ≤ 168 }
 {
@@ -90,7 +91,8 @@ fn columns_length(width: usize, numbers: &[Number]) -> usize
 
 // Writes the columns of some numbers over the front of the buffer, and answers where they end.
 fn write_columns(width: usize, numbers: &[Number], out: &mut [u8]) -> usize
-    requires { (width ≤ 12) × (length (columns width (map value numbers.now)) ≤ length out.old) }
+    requires narrow { width ≤ 12 }
+    requires room { length (columns width (map value numbers.now)) ≤ length out.old }
     ensures end { result ≡ length (columns width (map value numbers.now)) }
     ensures text { out.new ≡ over (columns width (map value numbers.now)) out.old }
 {
@@ -116,7 +118,8 @@ fn too_small(needed: usize) -> Fault
 
 // Writes a row over the front of a buffer that has room for it.
 fn fill_row(letter: u8, width: usize, numbers: &[Number], out: &mut [u8])
-    requires { (width ≤ 12) × (length (row_text letter width (map value numbers.now)) ≤ length out.old) }
+    requires narrow { width ≤ 12 }
+    requires room { length (row_text letter width (map value numbers.now)) ≤ length out.old }
     ensures { out.new ≡ over (row_text letter width (map value numbers.now)) out.old }
 {
     let end = write_columns(width, numbers, &mut out[1..]);
@@ -126,7 +129,8 @@ fn fill_row(letter: u8, width: usize, numbers: &[Number], out: &mut [u8])
 
 // Writes a letter, numbers in columns, and byte 10.
 fn write_row(letter: u8, width: usize, numbers: &[Number], out: &mut [u8]) -> Result<usize, Fault>
-    requires { (width ≤ 12) × (length numbers.now ≤ 8) }
+    requires narrow { width ≤ 12 }
+    requires few { length numbers.now ≤ 8 }
     ensures answer { result ≡ wrote (row_text letter width (map value numbers.now)) out.old }
     ensures text { out.new ≡ put (row_text letter width (map value numbers.now)) out.old }
 {

@@ -153,7 +153,8 @@ pub fn of_section(pass: Pass, len: u64, p: u64, h: Header) -> Result<(), Fault>
 
 // A section with entries of 24 bytes; how many it has.
 pub fn table(limit: u64, p: u64, h: Header) -> Result<u32, Fault>
-    requires { (p + 64 < 18446744073709551616) × (limit ≤ 65536) }
+    requires fits { p + 64 < 18446744073709551616 }
+    requires few { limit ≤ 65536 }
     ensures { result ≡ answer (first_fault (table_checks limit p h)) (h.size / 24) }
 {
     if h.stride != 24 {
@@ -171,7 +172,7 @@ pub fn table(limit: u64, p: u64, h: Header) -> Result<u32, Fault>
 // The symbol `s`, which stands at `q`.
 pub fn symbol_rule(b: &[u8], first: u64, n: u16, q: u64, s: Symbol) -> Result<(), Fault>
     requires headed { Headed b.now first n }
-    requires q_in_bounds { q + 24 ≤ length b.now }
+    requires inside { q + 24 ≤ length b.now }
     ensures { result ≡ answer (first_fault (symbol_checks b.now q s)) tt }
 {
     if outside(s.section) {
@@ -285,7 +286,8 @@ fn entry_rule(
     e: Entry,
 ) -> Result<(), Fault>
     requires headed { Headed b.now first n }
-    requires tabled { (Tabled b.now symbols) × (q + 24 ≤ length b.now) }
+    requires tabled { Tabled b.now symbols }
+    requires inside { q + 24 ≤ length b.now }
     ensures { result ≡ answer (first_fault (entry_checks b.now size q e)) tt }
 {
     if e.offset >= size {
@@ -315,7 +317,8 @@ pub fn entry_at(
     q: u64,
 ) -> Result<(), Fault>
     requires headed { Headed b.now first n }
-    requires tabled { (Tabled b.now symbols) × (q + 24 ≤ length b.now) }
+    requires tabled { Tabled b.now symbols }
+    requires inside { q + 24 ≤ length b.now }
     ensures { result ≡ answer (first_fault (entry_checks b.now size q (entry_in b.now q))) tt }
 {
     let e = read_entry(b, q)?;

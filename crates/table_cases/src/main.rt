@@ -16,7 +16,8 @@ use table_writer::{table_length, write_table};
 // Where a byte comes next, or the end.
 fn next(bytes: &[u8], from: usize, wanted: u8) -> usize
     requires { from ≤ length bytes.now }
-    ensures { (from ≤ result) × (result ≤ length bytes.now) }
+    ensures after { from ≤ result }
+    ensures within { result ≤ length bytes.now }
 {
     for i in from..bytes.len() {
         if bytes[i] == wanted {

@@ -35,7 +35,7 @@ pub on_table-requires : goal.on_table-requires
 on_table-requires c =
     let b = c.args.b.now
     in let found = ok_none (first_fault (each (only_rule 2 b) c.args.n)) c.in_ok-found.found (first_where (of_kind 2 b) c.args.n) c.in_ok-found.ensures
-    in record { headed = c.requires.headed; found_value = (found.1 ∙ ap (first_where (of_kind 2 b)) c.requires.headed.count_right, c.requires.n_value) }
+    in record { headed = c.requires.headed; found = found.1 ∙ ap (first_where (of_kind 2 b)) c.requires.headed.count_right; extents = c.requires.extents }
 
 pub returns : goal.returns
 returns c =

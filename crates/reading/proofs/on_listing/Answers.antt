@@ -24,7 +24,7 @@ pub significance-requires : goal.significance-requires
 significance-requires c =
     let b = c.args.b.now
     in let found = ok_none (first_fault (each (only_rule significance_kind b) c.args.n)) c.in_ok-table.table (first_where (of_kind significance_kind b) c.args.n) c.in_ok-table.ensures
-    in record { headed = c.requires.headed; found_value = (found.1 ∙ ap (first_where (of_kind significance_kind b)) c.requires.headed.count_right, (c.requires.parts_value.1.0, c.requires.parts_value.1.1)) }
+    in record { headed = c.requires.headed; found = found.1 ∙ ap (first_where (of_kind significance_kind b)) c.requires.headed.count_right; tabled = c.requires.tabled; extents = c.requires.extents }
 
 pub returns-in_err-listed : goal.returns-in_err-listed
 returns-in_err-listed c =
@@ -48,8 +48,8 @@ returns c =
     (ap (λ (x : ℕ). first_fault (each (only_rule significance_kind b) x)) (sym known.count_right) ∙ found.0) (
       listed.0,
       record {
-        symbols_right = c.requires.parts_value.1.0.symbols_right;
-        parts_right = c.requires.parts_value.0;
+        symbols_right = c.requires.tabled.symbols_right;
+        parts_right = c.requires.parts;
         listing_right = c.is_some.ensures ∙ ap is_some (found.1 ∙ ap (first_where (of_kind significance_kind b)) known.count_right);
         marks_right = listed.1;
         few_roots = omega (arith, rooted.few, known.few);

@@ -24,7 +24,7 @@ pub on_listing-requires : goal.on_listing-requires
 on_listing-requires c =
     let b = c.args.b.now
     in let good = ok_none (first_fault (each (relocation_rule b) c.args.n)) c.in_ok-parts.parts (map (part_note b c.args.n) (range_with_len 0 1024)) c.in_ok-parts.ensures
-    in record { headed = c.requires.headed; parts_value = (good.1 ∙ ap (λ (x : ℕ). map (part_note b x) (range_with_len 0 1024)) c.requires.headed.count_right, (c.requires.found_value.1.0, c.requires.found_value.1.1)) }
+    in record { headed = c.requires.headed; parts = good.1 ∙ ap (λ (x : ℕ). map (part_note b x) (range_with_len 0 1024)) c.requires.headed.count_right; tabled = c.requires.tabled; extents = c.requires.extents }
 
 pub returns : goal.returns
 returns c =

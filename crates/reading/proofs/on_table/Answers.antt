@@ -19,7 +19,7 @@ pub on_relocations-requires : goal.on_relocations-requires
 on_relocations-requires c =
     let b = c.args.b.now
     in let good = ok_none (first_fault (table_rule b)) c.in_ok-symbols.symbols (symbols b) c.in_ok-symbols.ensures
-    in record { headed = c.requires.headed; found_value = (c.requires.found_value.0, (subst (Tabled b) (sym good.1) (tabled b c.args.first c.args.n c.requires.headed c.requires.found_value.1), c.requires.found_value.1)) }
+    in record { headed = c.requires.headed; found = c.requires.found; tabled = subst (Tabled b) (sym good.1) (tabled b c.args.first c.args.n c.requires.headed c.requires.extents); extents = c.requires.extents }
 
 pub returns : goal.returns
 returns c =

@@ -14,7 +14,7 @@ returns-in_err-count c =
     in let i = c.args.i
     in let h = c.in_ok-h.h
     in let turn = part_turn b c.args.first c.args.n i c.args.found c.args.parts.now h c.in_ok-of.of c.noted-taken.result c.is_number-linked.result
-    c.requires.headed c.requires.i_lt_n.0 c.requires.i_lt_n.1.0 c.requires.i_lt_n.1.1 c.in_ok-h.ensures (sym c.if-not-relocating.ensures) (omega arith) c.in_ok-of.ensures (sym c.if-not-present.ensures) c.noted-taken.ensures c.is_number-linked.ensures
+    c.requires.headed c.requires.below c.requires.found c.requires.parted c.in_ok-h.ensures (sym c.if-not-relocating.ensures) (omega arith) c.in_ok-of.ensures (sym c.if-not-present.ensures) c.noted-taken.ensures c.is_number-linked.ensures
     in let found = err_some (first_fault (fit_checks (c.args.first + 64 * i) h c.noted-taken.result c.is_number-linked.result)) f (h.size / 24) c.in_err-count.ensures
     in let p = err_from_is_err_and c.from_residual-in_err-count.result c.from_residual-in_err-count.ensures.1
     in rw (p.1, p.2) (answer_some (first_fault (part_checks b i (place b i) (section b i))) f (told_part b (section b i)) (turn.0 ∙ found))
@@ -25,7 +25,7 @@ returns c =
     in let i = c.args.i
     in let h = c.in_ok-h.h
     in let turn = part_turn b c.args.first c.args.n i c.args.found c.args.parts.now h c.in_ok-of.of c.noted-taken.result c.is_number-linked.result
-    c.requires.headed c.requires.i_lt_n.0 c.requires.i_lt_n.1.0 c.requires.i_lt_n.1.1 c.in_ok-h.ensures (sym c.if-not-relocating.ensures) (omega arith) c.in_ok-of.ensures (sym c.if-not-present.ensures) c.noted-taken.ensures c.is_number-linked.ensures
+    c.requires.headed c.requires.below c.requires.found c.requires.parted c.in_ok-h.ensures (sym c.if-not-relocating.ensures) (omega arith) c.in_ok-of.ensures (sym c.if-not-present.ensures) c.noted-taken.ensures c.is_number-linked.ensures
     in let none = ok_none (first_fault (fit_checks (c.args.first + 64 * i) h c.noted-taken.result c.is_number-linked.result)) c.in_ok-count.count (h.size / 24) c.in_ok-count.ensures
     in rw (turn.1, none.1)
     (answer_none (first_fault (part_checks b i (place b i) (section b i)))

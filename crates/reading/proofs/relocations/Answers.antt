@@ -23,13 +23,13 @@ loop-j-init c =
 
 pub overflow_add-q : goal.overflow_add-q
 overflow_add-q c =
-    let ends = part_ends c.args.b.now c.args.first c.args.n c.reading.i c.in-Some.part c.requires.headed c.reading-test.true c.loop-j.invariant.told c.requires.found_value.1.1
+    let ends = part_ends c.args.b.now c.args.first c.args.n c.reading.i c.in-Some.part c.requires.headed c.reading-test.true c.loop-j.invariant.told c.requires.extents
     in record { fits = omega arith }
 
 pub entry_at-requires : goal.entry_at-requires
 entry_at-requires c =
-    let ends = part_ends c.args.b.now c.args.first c.args.n c.reading.i c.in-Some.part c.requires.headed c.reading-test.true c.loop-j.invariant.told c.requires.found_value.1.1
-    in record { headed = c.requires.headed; tabled = (c.requires.found_value.1.0, omega arith) }
+    let ends = part_ends c.args.b.now c.args.first c.args.n c.reading.i c.in-Some.part c.requires.headed c.reading-test.true c.loop-j.invariant.told c.requires.extents
+    in record { headed = c.requires.headed; tabled = c.requires.tabled; inside = omega arith }
 
 pub loop-j-preserved : goal.loop-j-preserved
 loop-j-preserved c =

@@ -13,13 +13,13 @@ pub listing_at-requires : goal.listing_at-requires
 listing_at-requires c =
     let b = c.args.b.now
     in let known = c.requires.headed
-    in let at = only_is significance_kind b c.args.first c.args.n c.in-Some.a known (sym c.in-Some.is ∙ c.requires.found_value.0)
-    in record { headed = known; tabled = (c.requires.found_value.1.0, (at.0, extent_is b c.args.first c.args.n c.in-Some.a known at.0 (λ e. omega (arith, at.1)) (λ e. omega (arith, at.1)) c.requires.found_value.1.1)) }
+    in let at = only_is significance_kind b c.args.first c.args.n c.in-Some.a known (sym c.in-Some.is ∙ c.requires.found)
+    in record { headed = known; tabled = c.requires.tabled; below = at.0; inside = extent_is b c.args.first c.args.n c.in-Some.a known at.0 (λ e. omega (arith, at.1)) (λ e. omega (arith, at.1)) c.requires.extents }
 
 pub returns-in-None : goal.returns-in-None
 returns-in-None c =
     let b = c.args.b.now
-    in let none = unlisted b (sym c.in-None.is ∙ c.requires.found_value.0)
+    in let none = unlisted b (sym c.in-None.is ∙ c.requires.found)
     in ap Ok none.1 ∙ answer_none (first_fault (listing_rule b)) (marks b) none.0
 
 pub returns-in-Some : goal.returns-in-Some
@@ -27,4 +27,4 @@ returns-in-Some c =
     let b = c.args.b.now
     in c.listing_at.ensures
     ∙ ap (λ (o : Option ℕ). answer (first_fault (item_checks (symbols b).count (listing_of b o))) (map (listed_in b (listing_of b o)) (range_with_len 0 1024)))
-    (sym c.in-Some.is ∙ c.requires.found_value.0)
+    (sym c.in-Some.is ∙ c.requires.found)

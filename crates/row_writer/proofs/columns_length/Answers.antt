@@ -23,5 +23,5 @@ returns c =
     let all = so_far_all c.args.width (map value c.args.numbers.now) c.loop-number.number-index end in
     record {
       long = c.loop-number.invariant.0 ∙ ap length all;
-      few = omega (arith, c.loop-number.invariant.1, c.loop-number.auto.number-index-end, c.requires.1);
+      few = omega (arith, c.loop-number.invariant.1, c.loop-number.auto.number-index-end, c.requires.few);
     }

@@ -14,7 +14,7 @@ overflow_add-past c =
     c.width_of.result
     c.args.out.now
     here.0
-    c.requires.1
+    c.requires.room
     c.loop-number.invariant.0
     wide in
     search rules
@@ -28,7 +28,7 @@ slice_bounds-fill-end c =
     c.width_of.result
     c.args.out.now
     here.0
-    c.requires.1
+    c.requires.room
     c.loop-number.invariant.0
     wide in
     search rules
@@ -45,7 +45,7 @@ loop-number-preserved c =
     c.args.out.now
     c.fill.new.out
     here.0
-    c.requires.1
+    c.requires.room
     c.loop-number.invariant.0
     c.loop-number.invariant.1
     wide

@@ -22,15 +22,15 @@ returns-then-out-needed c =
     }
 
 pub fill_row-requires : goal.fill_row-requires
-fill_row-requires c = (
-  c.requires.0,
-  omega (
+fill_row-requires c = record {
+  narrow = c.requires.narrow;
+  room = omega (
     arith,
     c.columns_length-needed.ensures.long,
     length_row c.args.letter (columns c.args.width (map value c.args.numbers.now)),
     c.if-out-needed.false,
-  ),
-)
+  );
+}
 
 pub returns : goal.returns
 returns c =

@@ -14,12 +14,12 @@ use Rattle.object.proofs.view.record_of.Goals.{then-h-eq0, else-h-eq0}
 pub relocation_count-relocations-requires : goal.relocation_count-relocations-requires
 relocation_count-relocations-requires c =
     let at = shown_some c.args.b.now c.args.s c.in-Some.h c.in-Some.ensures
-    in (c.requires.0, (c.requires.1, at.0))
+    in record { held = c.requires.held; kept = c.requires.kept; below = at.0 }
 
 pub setting-setting-requires : goal.setting-setting-requires
 setting-setting-requires c =
     let at = shown_some c.args.b.now c.args.s c.in-Some.h c.in-Some.ensures
-    in let few = held_few c.args.b.now c.requires.0
+    in let few = held_few c.args.b.now c.requires.held
     in omega (arith, at.0)
 
 pub overflow_sub-flags : goal.overflow_sub-flags
@@ -29,7 +29,7 @@ pub overflow_cast-result : goal.overflow_cast-result
 overflow_cast-result c =
     let b = c.args.b.now
     in let at = shown_some b c.args.s c.in-Some.h c.in-Some.ensures
-    in let w = sound b c.args.s (held_facts b c.args.s c.requires.0 at.0) at.0 at.1
+    in let w = sound b c.args.s (held_facts b c.args.s c.requires.held at.0) at.0 at.1
     in let flags = ap (λ (x : Header). x.flags) at.2
     in record { fits = omega (arith, w.flags, flags) }
 
@@ -37,7 +37,7 @@ pub overflow_cast-result-in-Some : goal.overflow_cast-result-in-Some
 overflow_cast-result-in-Some c =
     let b = c.args.b.now
     in let at = shown_some b c.args.s c.in-Some.h c.in-Some.ensures
-    in let w = sound b c.args.s (held_facts b c.args.s c.requires.0 at.0) at.0 at.1
+    in let w = sound b c.args.s (held_facts b c.args.s c.requires.held at.0) at.0 at.1
     in let alignment = ap (λ (x : Header). x.alignment) at.2
     in let small = aligned_small (section b c.args.s).alignment w.alignment
     in elim c.if-h-eq0.branch [
@@ -49,7 +49,7 @@ pub overflow_cast-result-in-Some-2 : goal.overflow_cast-result-in-Some-2
 overflow_cast-result-in-Some-2 c =
     let b = c.args.b.now
     in let at = shown_some b c.args.s c.in-Some.h c.in-Some.ensures
-    in let w = sound b c.args.s (held_facts b c.args.s c.requires.0 at.0) at.0 at.1
+    in let w = sound b c.args.s (held_facts b c.args.s c.requires.held at.0) at.0 at.1
     in let size = ap (λ (x : Header). x.size) at.2
     in record { fits = omega (arith, w.size, size) }
 
@@ -60,8 +60,8 @@ pub returns-after-h-eq0 : goal.returns-after-h-eq0
 returns-after-h-eq0 c =
     let b = c.args.b.now
     in let at = shown_some b c.args.s c.in-Some.h c.in-Some.ensures
-    in let w = sound b c.args.s (held_facts b c.args.s c.requires.0 at.0) at.0 at.1
-    in let few = held_few b c.requires.0
+    in let w = sound b c.args.s (held_facts b c.args.s c.requires.held at.0) at.0 at.1
+    in let few = held_few b c.requires.held
     in let alignment : c.if-h-eq0.alignment ≡ alignment_of (section b c.args.s)
     = elim c.if-h-eq0.branch [
       | then-h-eq0 y ↦ y.alignment-is ∙ sym (ap (λ (t : Bool). cond t 1 (section b c.args.s).alignment) (eq-eqb (section b c.args.s).alignment 0 (sym (ap (λ (x : Header). x.alignment) at.2) ∙ y.if-h-eq0.true)))
@@ -71,4 +71,4 @@ returns-after-h-eq0 c =
     (ap flags_of at.2) alignment
     (ap (λ (x : Header). x.size) at.2 ∙ sym (bytes_length b (section b c.args.s) w))
     c.relocation_count-relocations.ensures
-    (setting_is b c.args.x.now c.args.s c.in-Some.h c.setting-setting.result c.requires.1 (omega (arith, at.0)) at.2 c.setting-setting.ensures)
+    (setting_is b c.args.x.now c.args.s c.in-Some.h c.setting-setting.result c.requires.kept (omega (arith, at.0)) at.2 c.setting-setting.ensures)

@@ -14,5 +14,5 @@ told-requires c =
     in let p : ℕ = c.args.x.now.symbols.from + 24 * c.in-Ok.e.symbol
     in let y = read_is b p 16 c.in-Ok-read_symbol.y (symbol_at b p) c.in-Ok-read_symbol.ensures
     in let same : p ≡ (symbols b).from + 24 * (entry_at b q).symbol
-    = ap (λ (x : ℕ). x + 24 * c.in-Ok.e.symbol) c.requires.kept.0.from_right ∙ ap (λ (x : Entry). (symbols b).from + 24 * x.symbol) e
-    in told_moved c.in-Ok-read_symbol.y (symbol b (entry_at b q).symbol) c.in-Ok.e (entry_at b q) (y ∙ ap (symbol_at b) same) e c.requires.b_in_bounds.1
+    = ap (λ (x : ℕ). x + 24 * c.in-Ok.e.symbol) c.requires.kept.from_right ∙ ap (λ (x : Entry). (symbols b).from + 24 * x.symbol) e
+    in told_moved c.in-Ok-read_symbol.y (symbol b (entry_at b q).symbol) c.in-Ok.e (entry_at b q) (y ∙ ap (symbol_at b) same) e c.requires.told

@@ -12,7 +12,7 @@ pub overflow_cast-result : goal.overflow_cast-result
 overflow_cast-result c =
     let b = c.args.b.now
     in let at = part_is b c.args.s c.in-Some.h (part b c.args.s (sections b)) c.in-Some.ensures
-    in let w = whole b c.args.s at.0 (held_facts b c.args.s c.requires.0 c.requires.1.1) at.1
+    in let w = whole b c.args.s at.0 (held_facts b c.args.s c.requires.held c.requires.below) at.1
     in let size = ap (λ (x : Header). x.size) at.2
     in record { fits = omega (arith, w.few, size) }
 

@@ -6,7 +6,7 @@ use Rattle.object.proofs.held.calls.ObjectSectionGraph.relocation.Goals as goal
 pub relocation-requires : goal.relocation-requires
 relocation-requires c =
     let x = c.args.self.now
-    in (
-      subst (λ (b : List ℕ). held b ≡ true) (sym c.as_slice.ensures.value) x.met,
-      subst (λ (b : List ℕ). Kept b x.notes) (sym c.as_slice.ensures.value) (kept_of x),
-    )
+    in record {
+      held = subst (λ (b : List ℕ). held b ≡ true) (sym c.as_slice.ensures.value) x.met;
+      kept = subst (λ (b : List ℕ). Kept b x.notes) (sym c.as_slice.ensures.value) (kept_of x);
+    }
