@@ -6,7 +6,7 @@
 use fault::Fault;
 
 // What became of a section in a pile.
-#[derive(Clone, Copy)]
+#[derive(Clone, Copy, PartialEq, Eq, Debug)]
 pub enum Slot {
     Untouched,
     // folded into the section of this number
@@ -16,7 +16,7 @@ pub enum Slot {
 }
 
 // One call that changes a pile, with its arguments.
-#[derive(Clone, Copy)]
+#[derive(Clone, Copy, PartialEq, Eq, Debug)]
 pub enum Call {
     // the outside name stands for the section from now on
     Bind { name: u16, section: u16 },
@@ -31,7 +31,7 @@ pub enum Call {
 }
 
 // Where a section of the graph below is found in a pile.
-#[derive(Clone, Copy)]
+#[derive(Clone, Copy, PartialEq, Eq, Debug)]
 pub enum Place {
     // at this number
     At(u16),
@@ -42,7 +42,7 @@ pub enum Place {
 }
 
 // What a call answers. `present` counts the sections that are present after the call.
-#[derive(Clone, Copy)]
+#[derive(Clone, Copy, PartialEq, Eq, Debug)]
 pub enum Answer {
     // a bind, pin or root was done
     Accepted,

@@ -5,6 +5,9 @@
 ghost use Rattle.std.specs.Prelude.{◌≡◌};
 ghost use Rattle.fault.specs.Numbers.{kind_number, layer_number};
 
+use std::error::Error;
+use std::fmt;
+
 // Why an input or a call is refused.
 #[derive(Clone, Copy, PartialEq, Eq, Debug)]
 pub enum Kind {
@@ -53,12 +56,20 @@ pub struct Fault {
     pub layer: Layer,
 }
 
-impl Kind {
-    // The number by which a refusal is known outside the library.
-    pub fn number(self) -> u8
-        ensures { result ≡ kind_number self }
+impl Fault {
+    pub fn new(kind: Kind, place: u64, layer: Layer) -> Fault
+        ensures { result ≡ record { kind = kind; place = place; layer = layer } }
     {
-        match self {
+        Fault { kind, place, layer }
+    }
+}
+
+// The number by which a refusal is known outside the library.
+impl From<Kind> for u8 {
+    ghost from_gives = { λ kind r. r ≡ kind_number kind };
+
+    fn from(kind: Kind) -> u8 {
+        match kind {
             Kind::Short => 1,
             Kind::Foreign => 2,
             Kind::Oversize => 3,
@@ -74,12 +85,12 @@ impl Kind {
     }
 }
 
-impl Layer {
-    // The number by which a layer is known outside the library.
-    pub fn number(self) -> u8
-        ensures { result ≡ layer_number self }
-    {
-        match self {
+// The number by which a layer is known outside the library.
+impl From<Layer> for u8 {
+    ghost from_gives = { λ layer r. r ≡ layer_number layer };
+
+    fn from(layer: Layer) -> u8 {
+        match layer {
             Layer::Field => 1,
             Layer::Format => 2,
             Layer::Pile => 3,
@@ -87,3 +98,35 @@ impl Layer {
         }
     }
 }
+
+impl fmt::Display for Kind {
+    fn fmt<W: fmt::Write>(&self, f: &mut fmt::Formatter<W>) -> fmt::Result {
+        f.write_str(match self {
+            Kind::Short => "a part runs past the end",
+            Kind::Foreign => "not a file of the kind that is read",
+            Kind::Oversize => "a count or a length is above its limit",
+            Kind::Dangling => "a number names no section or symbol",
+            Kind::Misshapen => "a field has a value that is not allowed",
+            Kind::BadRow => "a row does not form, or does not belong here",
+            Kind::Closed => "the pile was swept or folded",
+            Kind::NoSection => "no such section",
+            Kind::Bound => "the name was bound before",
+            Kind::Full => "no room for another",
+            Kind::Small => "the buffer is too short",
+        })
+    }
+}
+
+impl fmt::Display for Fault {
+    fn fmt<W: fmt::Write>(&self, f: &mut fmt::Formatter<W>) -> fmt::Result {
+        let number = u8::from(self.kind);
+        let layer = u8::from(self.layer);
+        write!(
+            f,
+            "refused with {number} at byte {}, layer {layer}: {}",
+            self.place, self.kind
+        )
+    }
+}
+
+impl Error for Fault {}

@@ -14,46 +14,36 @@ use model::{Record, Relocation};
 // A question about a section that is absent or not below the count, or about an index past the end, answers `None`, and
 // no other question does. A question changes nothing.
 pub trait SectionGraph {
-    // holds of every value that the public calls make, so that no caller owes anything
-    ghost sound: { Self → Type 0 };
-
     // the section graph that the value means
     ghost graph: { Self → Graph };
 
     // How many sections there are, absent ones included.
     fn count(&self) -> u16
-        requires { sound self.now }
         ensures { result ≡ count_of (graph self.now) };
 
     // What is told of section `s`.
     fn record_of(&self, s: u16) -> Option<Record>
-        requires { sound self.now }
         ensures { result ≡ record_of (graph self.now) s };
 
     // Byte `i` of section `s`.
     fn byte(&self, s: u16, i: u16) -> Option<u8>
-        requires { sound self.now }
         ensures { result ≡ byte_of (graph self.now) s i };
 
     // Relocation `j` of section `s`.
     fn relocation(&self, s: u16, j: u16) -> Option<Relocation>
-        requires { sound self.now }
         ensures { result ≡ relocation_of (graph self.now) s j };
 
     // How many roots there are.
     fn root_count(&self) -> u16
-        requires { sound self.now }
         ensures { result ≡ root_count_of (graph self.now) };
 
     // Root `j`, the number of a present section.
     fn root(&self, j: u16) -> Option<u16>
-        requires { sound self.now }
         ensures { result ≡ root_of (graph self.now) j };
 
     // The digest of the bytes of section `s`, an absent one having none. By the questions alone; a reader may give it with work on
     // its own slice.
     fn byte_digest(&self, s: u16) -> u64
-        requires { sound self.now }
         ensures { result ≡ digest (bytes_of (graph self.now) s) }
     {
         let mut digest = 14695981039346656037;
@@ -67,7 +57,6 @@ pub trait SectionGraph {
 
     // Whether sections `s` and `t` have the same bytes, an absent one having none. A reader may give it too.
     fn same_bytes(&self, s: u16, t: u16) -> bool
-        requires { sound self.now }
         ensures { Decides result (bytes_of (graph self.now) s ≡ bytes_of (graph self.now) t) }
     {
         let size = size_of(self.record_of(s));
@@ -82,17 +71,11 @@ pub trait SectionGraph {
         true
     }
 
-    ghost valid: { (x : Self) → sound x → Valid (graph x) };
+    ghost valid: { (x : Self) → Valid (graph x) };
 }
 
 // A digest with one more number mixed in.
 pub fn mix(digest: u64, x: u64) -> u64
-    ensures { result ≡ mixed digest x }
-{
-    blend(digest, x)
-}
-
-fn blend(digest: u64, x: u64) -> u64
     ensures { result ≡ mixed digest x }
 {
     (digest ^ x).wrapping_mul(1099511628211)
@@ -102,8 +85,5 @@ fn blend(digest: u64, x: u64) -> u64
 fn size_of(told: Option<Record>) -> u16
     ensures { result ≡ told_size told }
 {
-    match told {
-        Some(x) => x.size,
-        None => 0,
-    }
+    told.map_or(0, |x| x.size)
 }

@@ -1,6 +1,6 @@
 use Rattle.std.proofs.Common.{refl}
 use Rattle.graph.specs.Bytes.{mixed}
-use Rattle.graph.proofs.blend.Goals as goal
+use Rattle.graph.proofs.mix.Goals as goal
 
 pub returns : goal.returns
 unfolding mixed
