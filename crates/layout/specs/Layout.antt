@@ -1,5 +1,5 @@
 -- The rows of a section graph in the order of a table, and the table's text.
-use Rattle.std.specs.Prelude.{ℕ, zero, suc, ◌^◌, ◌<◌, List, [], ◌∷◌, length, take, drop, Some, None, Option}
+use Rattle.std.specs.Prelude.{ℕ, zero, suc, ◌+◌, ◌*◌, ◌/◌, ◌^◌, ◌<◌, List, [], ◌∷◌, length, take, drop, Some, None, Option}
 use Rattle.std.specs.List.{flat_map}
 use Rattle.model.specs.declared.Relocation.{Relocation}
 use Rattle.model.specs.Graph.{Body, Graph, record_in}
@@ -46,6 +46,10 @@ entries g =
 -- the table of a section graph
 abbrev pub text_of : Graph → List ℕ
 text_of g = flat_map render (entries g)
+
+-- how long the rows of n bytes are: four columns for each byte, and a letter and byte 10 for each sixteen
+abbrev pub bytes_length : ℕ → ℕ
+bytes_length n = 4 * n + 2 * ((n + 15) / 16)
 
 -- a number that a row may name a section by
 abbrev pub Free : ℕ → Type 0

@@ -18,51 +18,22 @@ opened n k =
 
 abbrev pub after_section : Due → ℕ → Record → Due
 after_section d s r =
-    record {
-      sections = d.sections;
+    record d {
       next = suc s;
       seen = suc d.seen;
-      roots = d.roots;
       size = r.size;
       bytes = r.size;
       relocations = r.relocations;
     }
 
 abbrev pub after_bytes : Due → ℕ → Due
-after_bytes d k =
-    record {
-      sections = d.sections;
-      next = d.next;
-      seen = d.seen;
-      roots = d.roots;
-      size = d.size;
-      bytes = d.bytes - k;
-      relocations = d.relocations;
-    }
+after_bytes d k = record d { bytes = d.bytes - k }
 
 abbrev pub after_relocation : Due → Due
-after_relocation d =
-    record {
-      sections = d.sections;
-      next = d.next;
-      seen = d.seen;
-      roots = d.roots;
-      size = d.size;
-      bytes = d.bytes;
-      relocations = d.relocations - 1;
-    }
+after_relocation d = record d { relocations = d.relocations - 1 }
 
 abbrev pub after_root : Due → Due
-after_root d =
-    record {
-      sections = d.sections;
-      next = d.sections;
-      seen = d.seen;
-      roots = d.roots - 1;
-      size = d.size;
-      bytes = d.bytes;
-      relocations = d.relocations;
-    }
+after_root d = record d { next = d.sections; roots = d.roots - 1 }
 
 -- what a row leads to, if it may come now:
 -- sections ascend and are below the count; the bytes of a section come sixteen a row, the last row the rest, before its

@@ -2,17 +2,18 @@
 
 #![tactic(auto)]
 
-ghost use Rattle.std.specs.Prelude.{◌≡◌, min, if◌then◌else◌, Some, None, nat_eq};
+ghost use Rattle.std.specs.Prelude.{◌≡◌, ◌<◌, min, if◌then◌else◌, Some, None, nat_eq};
 ghost use Rattle.row.specs.Entry.{section, relocation, root, end};
 ghost use Rattle.row.specs.Told.{told};
-ghost use Rattle.layout.specs.Order.{step, step_start, step_open, settled, after_bytes, is_done};
+ghost use Rattle.layout.specs.Layout.{bytes_length};
+ghost use Rattle.layout.specs.Order.{step, step_start, step_open, opened, settled, after_bytes, is_done};
 ghost use Rattle.layout.specs.Verdict.{ToldApart};
 
 use model::{Record, Relocation};
 use row::Row;
 
 // What is still due between the first row of a table and its last.
-#[derive(Clone, Copy)]
+#[derive(Clone, Copy, PartialEq, Eq, Debug)]
 pub struct Due {
     // how many sections there are, absent ones included
     pub sections: u16,
@@ -28,136 +29,126 @@ pub struct Due {
     pub relocations: u16,
 }
 
+impl Due {
+    // What is due behind a first row that tells these counts.
+    fn opened(sections: u16, roots: u16) -> Due
+        ensures { result ≡ opened sections roots }
+    {
+        Due {
+            sections,
+            next: 0,
+            seen: 0,
+            roots,
+            size: 0,
+            bytes: 0,
+            relocations: 0,
+        }
+    }
+
+    // Nothing is due of the section that came last.
+    fn is_settled(&self) -> bool
+        ensures { result ≡ settled self.now }
+    {
+        self.bytes == 0 && self.relocations == 0
+    }
+
+    fn take_section(&self, number: u16, info: &Record) -> Option<State>
+        ensures { result ≡ step_open self.now (section number info.now) }
+    {
+        let may_come = self.is_settled()
+            && self.seen < self.sections
+            && self.next <= number
+            && number < self.sections;
+        may_come.then(|| {
+            State::Open(Due {
+                next: number + 1,
+                seen: self.seen + 1,
+                size: info.size,
+                bytes: info.size,
+                relocations: info.relocations,
+                ..*self
+            })
+        })
+    }
+
+    // A row of `count` bytes: sixteen, or all that are left.
+    fn take_bytes(&self, count: u16) -> Option<State>
+        ensures { result ≡ (if nat_eq count (min 16 self.now.bytes) then Some (State.Open (after_bytes self.now count)) else None) }
+    {
+        (count == self.bytes.min(16)).then(|| {
+            State::Open(Due {
+                bytes: self.bytes - count,
+                ..*self
+            })
+        })
+    }
+
+    fn take_relocation(&self, entry: &Relocation) -> Option<State>
+        ensures { result ≡ step_open self.now (relocation entry.now) }
+    {
+        let may_come = self.bytes == 0 && self.relocations > 0 && entry.offset < self.size;
+        may_come.then(|| {
+            State::Open(Due {
+                relocations: self.relocations - 1,
+                ..*self
+            })
+        })
+    }
+
+    fn take_root(&self, number: u16) -> Option<State>
+        ensures { result ≡ step_open self.now (root number) }
+    {
+        (self.is_settled() && self.roots > 0).then(|| {
+            State::Open(Due {
+                next: self.sections,
+                roots: self.roots - 1,
+                ..*self
+            })
+        })
+    }
+
+    fn take_end(&self, present: u16) -> Option<State>
+        ensures { result ≡ step_open self.now (end present) }
+    {
+        (self.is_settled() && self.roots == 0 && present == self.seen).then_some(State::Done)
+    }
+
+    // What a row leads to, if it may come now.
+    fn take(&self, row: &Row<'_>) -> Option<State>
+        ensures { result ≡ step_open self.now (told row.now) }
+    {
+        match row {
+            Row::Header { .. } => None,
+            Row::Section { number, record, .. } => self.take_section(*number, record),
+            Row::Bytes { count, .. } => self.take_bytes(*count),
+            Row::Relocation { relocation, .. } => self.take_relocation(relocation),
+            Row::Root { section, .. } => self.take_root(*section),
+            Row::End { present, .. } => self.take_end(*present),
+        }
+    }
+}
+
 // How far the rows of a table have come.
-#[derive(Clone, Copy)]
+#[derive(Clone, Copy, PartialEq, Eq, Debug)]
 pub enum State {
     Start,
     Open(Due),
     Done,
 }
 
-// Nothing is due of the section that came last.
-fn settled(due: &Due) -> bool
-    ensures { result ≡ settled due.now }
-{
-    due.bytes == 0 && due.relocations == 0
-}
-
-fn take_section(due: &Due, number: u16, info: &Record) -> Option<State>
-    ensures { result ≡ step_open due.now (section number info.now) }
-{
-    if settled(due) && due.seen < due.sections && due.next <= number && number < due.sections {
-        Some(State::Open(Due {
-            sections: due.sections,
-            next: number + 1,
-            seen: due.seen + 1,
-            roots: due.roots,
-            size: info.size,
-            bytes: info.size,
-            relocations: info.relocations,
-        }))
-    } else {
-        None
-    }
-}
-
-// A row of `count` bytes: sixteen, or all that are left.
-fn take_bytes(due: &Due, count: u16) -> Option<State>
-    ensures { result ≡ (if nat_eq count (min 16 due.now.bytes) then Some (State.Open (after_bytes due.now count)) else None) }
-{
-    if count == due.bytes.min(16) {
-        Some(State::Open(Due {
-            sections: due.sections,
-            next: due.next,
-            seen: due.seen,
-            roots: due.roots,
-            size: due.size,
-            bytes: due.bytes - count,
-            relocations: due.relocations,
-        }))
-    } else {
-        None
-    }
-}
-
-fn take_relocation(due: &Due, entry: &Relocation) -> Option<State>
-    ensures { result ≡ step_open due.now (relocation entry.now) }
-{
-    if due.bytes == 0 && due.relocations > 0 && entry.offset < due.size {
-        Some(State::Open(Due {
-            sections: due.sections,
-            next: due.next,
-            seen: due.seen,
-            roots: due.roots,
-            size: due.size,
-            bytes: due.bytes,
-            relocations: due.relocations - 1,
-        }))
-    } else {
-        None
-    }
-}
-
-fn take_root(due: &Due, number: u16) -> Option<State>
-    ensures { result ≡ step_open due.now (root number) }
-{
-    if settled(due) && due.roots > 0 {
-        Some(State::Open(Due {
-            sections: due.sections,
-            next: due.sections,
-            seen: due.seen,
-            roots: due.roots - 1,
-            size: due.size,
-            bytes: due.bytes,
-            relocations: due.relocations,
-        }))
-    } else {
-        None
-    }
-}
-
-fn take_end(due: &Due, present: u16) -> Option<State>
-    ensures { result ≡ step_open due.now (end present) }
-{
-    if settled(due) && due.roots == 0 && present == due.seen {
-        Some(State::Done)
-    } else {
-        None
-    }
-}
-
+// What the first row leads to.
 fn begin(row: &Row<'_>) -> Option<State>
     ensures { result ≡ step_start (told row.now) }
 {
-    match row {
-        Row::Header {
-            sections,
-            roots,
-            ..
-        } => Some(State::Open(Due {
-            sections: *sections,
-            next: 0,
-            seen: 0,
-            roots: *roots,
-            size: 0,
-            bytes: 0,
-            relocations: 0,
-        })),
-        _ => None,
-    }
-}
-
-fn proceed(due: &Due, row: &Row<'_>) -> Option<State>
-    ensures { result ≡ step_open due.now (told row.now) }
-{
-    match row {
-        Row::Header { .. } => None,
-        Row::Section { number, record, .. } => take_section(due, *number, record),
-        Row::Bytes { count, .. } => take_bytes(due, *count),
-        Row::Relocation { relocation, .. } => take_relocation(due, relocation),
-        Row::Root { section, .. } => take_root(due, *section),
-        Row::End { present, .. } => take_end(due, *present),
-    }
+    let Row::Header {
+        sections,
+        roots,
+        ..
+    } = row
+    else {
+        return None;
+    };
+    Some(State::Open(Due::opened(*sections, *roots)))
 }
 
 impl State {
@@ -167,7 +158,7 @@ impl State {
     {
         match self {
             State::Start => begin(row),
-            State::Open(due) => proceed(due, row),
+            State::Open(due) => due.take(row),
             State::Done => None,
         }
     }
@@ -176,8 +167,16 @@ impl State {
     pub fn is_done(&self) -> bool
         ensures { result ≡ is_done self.now }
     {
-        matches!(self, State::Done)
+        *self == State::Done
     }
+}
+
+// How long the rows of `size` bytes are: four columns for each byte, and a letter and byte 10 for each sixteen.
+pub fn bytes_length(size: u16) -> usize
+    ensures value { result ≡ bytes_length size }
+    ensures bound { result < 1000000 }
+{
+    4 * usize::from(size) + 2 * usize::from(size).div_ceil(16)
 }
 
 // Graphs with the same table are the same.
