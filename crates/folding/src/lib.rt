@@ -6,64 +6,46 @@
 ghost use Rattle.folding.specs.Theorems.{FoldFolds, FoldValid, ReachDecided, SweepSweeps, SweepValid, FoldKeepsReached, SweepKeepsApart, Settled, BothFinish};
 
 // The fold leaves the lowest of each group, sections and roots unfold as they did, and no two different sections are alike.
-pub fn fold_folds() -> u8
+pub fn fold_folds()
     ensures { FoldFolds }
-{
-    0
-}
+{}
 
 // The folded graph keeps the laws.
-pub fn fold_valid() -> u8
+pub fn fold_valid()
     ensures { FoldValid }
-{
-    0
-}
+{}
 
 // The test by rounds finds what a chain of relocations from a root reaches.
-pub fn reach_decided() -> u8
+pub fn reach_decided()
     ensures { ReachDecided }
-{
-    0
-}
+{}
 
 // The sweep leaves what is reached, as it was.
-pub fn sweep_sweeps() -> u8
+pub fn sweep_sweeps()
     ensures { SweepSweeps }
-{
-    0
-}
+{}
 
 // The swept graph keeps the laws.
-pub fn sweep_valid() -> u8
+pub fn sweep_valid()
     ensures { SweepValid }
-{
-    0
-}
+{}
 
 // Folding leaves everything reached that was.
-pub fn fold_keeps_reached() -> u8
+pub fn fold_keeps_reached()
     ensures { FoldKeepsReached }
-{
-    0
-}
+{}
 
 // Sweeping makes no two sections alike.
-pub fn sweep_keeps_apart() -> u8
+pub fn sweep_keeps_apart()
     ensures { SweepKeepsApart }
-{
-    0
-}
+{}
 
 // A second fold, or a second sweep, changes nothing.
-pub fn settled() -> u8
+pub fn settled()
     ensures { Settled }
-{
-    0
-}
+{}
 
 // After a fold and a sweep, in either order, neither changes anything.
-pub fn both_finish() -> u8
+pub fn both_finish()
     ensures { BothFinish }
-{
-    0
-}
+{}

@@ -11,64 +11,46 @@ ghost use Rattle.runs.specs.Examples.{ExamplesHold};
 
 // The whole promise, for every valid graph and every list of calls: what a fold joins, the roots, that nothing smaller has roots alike,
 // and that a pile that was swept and folded does not change.
-pub fn promise_stands() -> u8
+pub fn promise_stands()
     ensures { PromiseStands }
-{
-    0
-}
+{}
 
 // What a bind, a pin and a root do to a section graph.
-pub fn calls_draw() -> u8
+pub fn calls_draw()
     ensures { Draws }
-{
-    0
-}
+{}
 
 // The drawn graph can be told at once from where targets go, which sections are pinned and which roots were added.
-pub fn calls_noted() -> u8
+pub fn calls_noted()
     ensures { Notes }
-{
-    0
-}
+{}
 
 // When each refusal comes, and that a refused call alters nothing.
-pub fn refusals_come() -> u8
+pub fn refusals_come()
     ensures { Refuses }
-{
-    0
-}
+{}
 
 // The drawn graph, the bound names, the added roots and whether the pile is closed follow from the calls that were not refused.
-pub fn run_follows() -> u8
+pub fn run_follows()
     ensures { RunFollows }
-{
-    0
-}
+{}
 
 // What a pile tells of its sections after any calls.
-pub fn pile_tells() -> u8
+pub fn pile_tells()
     ensures { PileTells }
-{
-    0
-}
+{}
 
 // The pile's graph is the drawn graph seen through the slots.
-pub fn pile_seen() -> u8
+pub fn pile_seen()
     ensures { PileSeen }
-{
-    0
-}
+{}
 
 // What a sweep and a fold do and answer after any calls.
-pub fn closes_right() -> u8
+pub fn closes_right()
     ensures { ClosesRight }
-{
-    0
-}
+{}
 
 // The definitions give what each worked example says.
-pub fn examples_hold() -> u8
+pub fn examples_hold()
     ensures { ExamplesHold }
-{
-    0
-}
+{}

@@ -8,78 +8,56 @@ ghost use Rattle.unfolding.specs.Matching.{AlikeMatches, MatchingAlike};
 ghost use Rattle.unfolding.specs.Examples.{ExamplesHold};
 
 // The sections that are counted are the present ones.
-pub fn presence_decided() -> u8
+pub fn presence_decided()
     ensures { PresenceDecided }
-{
-    0
-}
+{}
 
 // Depth 0 tells a pinned section from every other, and no two foldable ones apart.
-pub fn marks_tell() -> u8
+pub fn marks_tell()
     ensures { MarksTell }
-{
-    0
-}
+{}
 
 // Agreement at depth k + 1 gives agreement at depth k.
-pub fn depths_narrow() -> u8
+pub fn depths_narrow()
     ensures { Narrows }
-{
-    0
-}
+{}
 
 // When two neighbouring depths have the same groups, so have all later ones.
-pub fn groups_last() -> u8
+pub fn groups_last()
     ensures { GroupsLast }
-{
-    0
-}
+{}
 
 // That comes at some depth not above the count of sections.
-pub fn groups_settle() -> u8
+pub fn groups_settle()
     ensures { GroupsSettle }
-{
-    0
-}
+{}
 
 // Agreement there is agreement at every depth.
-pub fn depth_decides() -> u8
+pub fn depth_decides()
     ensures { DepthDecides }
-{
-    0
-}
+{}
 
 // The rounds are the least such depth.
-pub fn rounds_are_least() -> u8
+pub fn rounds_are_least()
     ensures { RoundsAreLeast }
-{
-    0
-}
+{}
 
 // The representative is the lowest of its group.
-pub fn lowest_represents() -> u8
+pub fn lowest_represents()
     ensures { LowestRepresents }
-{
-    0
-}
+{}
 
 // Alike sections give the same answers to the questions, and point at alike sections.
-pub fn alike_matches() -> u8
+pub fn alike_matches()
     ensures { AlikeMatches }
-{
-    0
-}
+{}
 
 // Sections that a pairing matches, with all that they lead to, are alike.
-pub fn matching_alike() -> u8
+pub fn matching_alike()
     ensures { MatchingAlike }
-{
-    0
-}
+{}
 
 // The definitions give what each worked example says.
-pub fn examples_hold() -> u8
+pub fn examples_hold()
     ensures { ExamplesHold }
-{
-    0
-}
+{}
