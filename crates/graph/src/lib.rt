@@ -60,15 +60,7 @@ pub trait SectionGraph {
         ensures { Decides result (bytes_of (graph self.now) s ≡ bytes_of (graph self.now) t) }
     {
         let size = size_of(self.record_of(s));
-        if size != size_of(self.record_of(t)) {
-            return false;
-        }
-        for i in 0..size {
-            if self.byte(s, i) != self.byte(t, i) {
-                return false;
-            }
-        }
-        true
+        size == size_of(self.record_of(t)) && (0..size).all(|i| self.byte(s, i) == self.byte(t, i))
     }
 
     ghost valid: { (x : Self) → Valid (graph x) };
