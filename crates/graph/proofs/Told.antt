@@ -1,9 +1,7 @@
 -- What the questions tell of a section's bytes, and the list of them.
-use Rattle.std.proofs.Common.{◌≡◌, ◌≢◌, ℕ, ◌+◌, ◌<◌, ◌≤◌, Bool, true, false, Decides, List, slice_index_or, length, drop, Some, None, Option, zero-add, sym, refl, ap, ◌∙◌, subst, arith}
-use Rattle.std.specs.List.{slice_get, range_with_len, AllWithin, HoldsAt}
-use Rattle.std.specs.Bool.{MatchBool}
+use Rattle.std.proofs.Common.{◌≡◌, ℕ, ◌+◌, ◌<◌, ◌≤◌, length, drop, Some, None, Option, sym, refl, ap, ◌∙◌, subst, arith}
+use Rattle.std.specs.List.{slice_get}
 use Rattle.std.proofs.lemmas.List.{drop_all}
-use Rattle.std.proofs.lemmas.List.FromFn.{length-range_with_len, get_or-range_with_len}
 use Rattle.model.specs.Graph.{Body, told_byte, told_record}
 use Rattle.graph.specs.Bytes.{bytes_in, mixed, digest_from, told_size}
 use Rattle.graph.proofs.Places.{drop_nth, nth_none, same_from_places}
@@ -34,7 +32,7 @@ digest_end o h i e =
     ap (digest_from h) (drop_all i (bytes_in o) (subst (λ (n : ℕ). n ≤ i) (size_length o) e))
 
 -- sections with the same told of their bytes have the same bytes
-bytes_same :
+pub bytes_same :
     (a b : Option Body) (n : ℕ) →
     told_size (told_record a) ≡ n →
     told_size (told_record b) ≡ n →
@@ -47,30 +45,3 @@ bytes_same a b n p q h =
     (bytes_in b)
     (m ∙ (sym q ∙ size_length b))
     (λ i l. sym (byte_nth a i) ∙ (h i (omega arith) ∙ byte_nth b i))
-
--- what a walk over the first n places finds decides it, where both sections have n bytes
-pub bytes_decided :
-    (a b : Option Body) (n : ℕ) →
-    told_size (told_record a) ≡ n →
-    told_size (told_record b) ≡ n →
-    (r : Bool) →
-    MatchBool r
-    (AllWithin (λ i. told_byte a i ≡ told_byte b i) (range_with_len 0 n) 0 (length (range_with_len 0 n)))
-    ((k : ℕ) × (k < length (range_with_len 0 n)) × HoldsAt (λ i. told_byte a i ≢ told_byte b i) (range_with_len 0 n) k) →
-    Decides r (bytes_in a ≡ bytes_in b)
-bytes_decided a b n p q true h = (
-  λ _. bytes_same a b n p q (λ i l. at i l),
-  λ _. refl,
-)
-  where
-    at : (i : ℕ) → i < n → told_byte a i ≡ told_byte b i
-    at i l =
-        subst
-        (λ (k : ℕ). told_byte a k ≡ told_byte b k)
-        (get_or-range_with_len 0 n i 0 l ∙ zero-add i)
-        (h i 0 (omega arith) (omega (arith, length-range_with_len 0 n)))
-bytes_decided a b n p q false h =
-    let k = slice_index_or (range_with_len 0 n) h.0 0 in (
-      λ e. cc,
-      λ e. absurd (h.2 0 (byte_nth a k ∙ (ap (λ (xs : List ℕ). slice_get xs k) e ∙ sym (byte_nth b k)))),
-    )

@@ -49,7 +49,7 @@ pub trait SectionGraph {
         let mut digest = 14695981039346656037;
         for i in 0..size_of(self.record_of(s)) {
             if let Some(x) = self.byte(s, i) {
-                digest = mix(digest, x as u64);
+                digest = mix(digest, u64::from(x));
             }
         }
         digest
@@ -60,13 +60,22 @@ pub trait SectionGraph {
         ensures { Decides result (bytes_of (graph self.now) s ≡ bytes_of (graph self.now) t) }
     {
         let size = size_of(self.record_of(s));
-        size == size_of(self.record_of(t)) && (0..size).all(|i| self.byte(s, i) == self.byte(t, i))
+        if size != size_of(self.record_of(t)) {
+            return false;
+        }
+        for i in 0..size {
+            if self.byte(s, i) != self.byte(t, i) {
+                return false;
+            }
+        }
+        true
     }
 
     ghost valid: { (x : Self) → Valid (graph x) };
 }
 
 // A digest with one more number mixed in.
+#[tactic(auto, unfolding(crate::specs::Bytes::mixed))]
 pub fn mix(digest: u64, x: u64) -> u64
     ensures { result ≡ mixed digest x }
 {

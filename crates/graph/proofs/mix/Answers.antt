@@ -1,7 +1,0 @@
-use Rattle.std.proofs.Common.{refl}
-use Rattle.graph.specs.Bytes.{mixed}
-use Rattle.graph.proofs.mix.Goals as goal
-
-pub returns : goal.returns
-unfolding mixed
-returns c = refl
