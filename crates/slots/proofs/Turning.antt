@@ -1,40 +1,35 @@
 -- One slot more made anew.
-use Rattle.std.proofs.Common.{◌≡◌, ℕ, suc, ◌+◌, ◌-◌, ◌<◌, ◌≤◌, Bool, true, false, not, eqb, List, [], ◌∷◌, ◌++◌, length, get_or, drop, set, sym, refl, ap, ◌∙◌, append_assoc, add-one, arith}
+use Rattle.std.proofs.Common.{◌≡◌, ℕ, suc, ◌+◌, ◌-◌, ◌<◌, ◌≤◌, Bool, true, false, cond, not, ◌&&◌, eqb, List, [], ◌∷◌, ◌++◌, Some, None, Option, is_some, is_none, unwrap_or, length, get_or, drop, set, sym, refl, ap, ◌∙◌, append_assoc, add-one, arith}
 use Rattle.std.proofs.lemmas.List.{drop_more, set_at}
-use Rattle.std.proofs.lemmas.Bool.{and_left, and_right, and_from, not_from_true, not_from_false, cond-true, cond-false, eq-eqb, ne_eqb}
+use Rattle.std.proofs.lemmas.Bool.{and_left, and_right, and_from, cond-true, cond-false}
 use Rattle.std.proofs.lemmas.List.FromFn.{map-range_with_len_more}
 use Rattle.calls.specs.declared.Slot.{Slot}
 use Rattle.calls.specs.declared.Slot.TheVariants.{Untouched, Folded, Swept}
+use Rattle.calls.specs.declared.Place.{Place}
 use Rattle.calls.specs.declared.Place.TheVariants.{Swept as Nowhere}
 use Rattle.steps.specs.Below.{count_below, table}
 use Rattle.steps.proofs.Below.{table_length}
 use Rattle.steps.proofs.Count.{count_bounded, count_yes, count_no}
-use Rattle.runs.specs.State.{slot_of, slots_by, ended, followed, found_at}
-use Rattle.runs.proofs.Slots.{slots_length}
+use Rattle.runs.specs.State.{slot_of, slots_by, ended, followed}
 use Rattle.slots.specs.declared.Slots.{Slots}
-use Rattle.slots.specs.Turns.{stays, drops, dropped_slot, leads, joins, joined_slot, Turned}
+use Rattle.slots.specs.Turns.{stays, drops, dropped_slot, leads, joins, joined_slot, stays_by, goes_by, slot_by, sweep_rule, fold_rule, Turned}
 
--- following
+-- following at most n slots, of which k were followed
 
-pub followed_start : (slots : List Slot) (s : ℕ) → followed (suc s - 0) slots s ≡ found_at slots s
-followed_start slots s =
-    let z : suc s - 0 ≡ suc s = omega arith in
-    ap (λ (n : ℕ). followed n slots s) z
+pub followed_start : (slots : List Slot) (n s : ℕ) → followed (n - 0) slots s ≡ followed n slots s
+followed_start slots n s =
+    let z : n - 0 ≡ n = omega arith in
+    ap (λ (m : ℕ). followed m slots s) z
 
-pub followed_end : (slots : List Slot) (s at k : ℕ) → suc s ≤ k → followed (suc s - k) slots at ≡ found_at slots s → Nowhere ≡ found_at slots s
-followed_end slots s at k h e =
-    let z : suc s - k ≡ 0 = omega arith in
-    sym (ap (λ (n : ℕ). followed n slots at) z) ∙ e
+pub followed_end : (slots : List Slot) (n at k : ℕ) (x : Place) → n ≤ k → followed (n - k) slots at ≡ x → Nowhere ≡ x
+followed_end slots n at k x h e =
+    let z : n - k ≡ 0 = omega arith in
+    sym (ap (λ (m : ℕ). followed m slots at) z) ∙ e
 
-pub followed_here : (slots : List Slot) (s at k : ℕ) (x : Slot) → k < suc s → slot_of slots at ≡ x → followed (suc s - k) slots at ≡ found_at slots s → ended x at (followed (s - k) slots) ≡ found_at slots s
-followed_here slots s at k x h e f =
-    let z : suc s - k ≡ suc (s - k) = omega arith in
-    sym (ap (λ (y : Slot). ended y at (followed (s - k) slots)) e) ∙ (sym (ap (λ (n : ℕ). followed n slots at) z) ∙ f)
-
-pub followed_next : (slots : List Slot) (s at k t : ℕ) → k < suc s → slot_of slots at ≡ Folded t → followed (suc s - k) slots at ≡ found_at slots s → followed (suc s - (k + 1)) slots t ≡ found_at slots s
-followed_next slots s at k t h e f =
-    let z : suc s - (k + 1) ≡ s - k = omega arith in
-    ap (λ (n : ℕ). followed n slots t) z ∙ followed_here slots s at k (Folded t) h e f
+pub followed_here : (slots : List Slot) (n at k : ℕ) (y : Slot) (x : Place) → k < n → slot_of slots at ≡ y → followed (n - k) slots at ≡ x → ended y at (followed (n - (k + 1)) slots) ≡ x
+followed_here slots n at k y x h e f =
+    let z : n - k ≡ suc (n - (k + 1)) = omega arith in
+    sym (ap (λ (y : Slot). ended y at (followed (n - (k + 1)) slots)) e) ∙ (sym (ap (λ (m : ℕ). followed m slots at) z) ∙ f)
 
 -- slots made anew
 
@@ -67,12 +62,6 @@ new_more f s slots x h e =
     (table_length (λ t. f t (slot_of slots t)) s)))
 
 module _ (f : ℕ → Slot → Slot) (p q : ℕ → Bool) (n : ℕ) (old : Slots) (full : length old.list ≡ 1024) (small : n < 1024) (new : Slots) (a b : ℕ) (t : Turned f p q n old new a b) where
-  -- as many slots as before
-  pub turned_full : length new.list ≡ 1024
-  turned_full =
-      ap (λ (xs : List Slot). length xs) t.list ∙
-      (slots_length f n old.list (omega arith) ∙ full)
-
   -- the counts are small
   pub kept_small : a ≤ n
   kept_small = rw t.kept (count_bounded p n)
@@ -126,68 +115,74 @@ as_now :
 as_now next a' b' e ea eb t =
     record { list = ap (λ (x : Slots). x.list) e ∙ t.list; kept = ea ∙ t.kept; gone = eb ∙ t.gone }
 
--- one turn of the sweep
+-- one turn, by a rule
 
-module _ (there reached : List Bool) (n : ℕ) (old : Slots) (full : length old.list ≡ 1024) (small : n < 1024) (new : Slots) (a b : ℕ)
-    (t : Turned (dropped_slot there reached) (stays there reached) (drops there reached) n old new a b) (next : Slots) (a' b' : ℕ) where
-  pub drop_absent : get_or there n false ≡ false → next ≡ new → a' ≡ a → b' ≡ b → Turned (dropped_slot there reached) (stays there reached) (drops there reached) (n + 1) old next a' b'
-  drop_absent e x y z =
+module _ (there : List Bool) (rule : ℕ → Option Slot) (n : ℕ) (old : Slots) (full : length old.list ≡ 1024) (small : n < 1024) (new : Slots) (a b : ℕ)
+    (t : Turned (slot_by there rule) (stays_by there rule) (goes_by there rule) n old new a b) (next : Slots) (a' b' : ℕ) where
+  pub by_absent : get_or there n false ≡ false → next ≡ new → a' ≡ a → b' ≡ b → Turned (slot_by there rule) (stays_by there rule) (goes_by there rule) (n + 1) old next a' b'
+  by_absent e x y z =
       as_now next a' b' x y z
-      (turn_absent (dropped_slot there reached) (stays there reached) (drops there reached) n old full small new a b t
-      (and_left (get_or there n false) (get_or reached n false) e)
-      (and_left (get_or there n false) (not (get_or reached n false)) e)
-      (cond-false (drops there reached n) Swept (slot_of old.list n) (and_left (get_or there n false) (not (get_or reached n false)) e)))
+      (turn_absent (slot_by there rule) (stays_by there rule) (goes_by there rule) n old full small new a b t
+      (and_left (get_or there n false) (is_none (rule n)) e)
+      (and_left (get_or there n false) (is_some (rule n)) e)
+      (cond-false (get_or there n false) (unwrap_or (rule n) (slot_of old.list n)) (slot_of old.list n) e))
 
-  pub drop_stays : get_or there n false ≡ true → get_or reached n false ≡ true → next ≡ new → a' ≡ a + 1 → b' ≡ b → Turned (dropped_slot there reached) (stays there reached) (drops there reached) (n + 1) old next a' b'
-  drop_stays e r x y z =
-      let no : drops there reached n ≡ false = and_right (get_or there n false) (not (get_or reached n false)) (not_from_true (get_or reached n false) r) in
+  pub by_stays : get_or there n false ≡ true → rule n ≡ None → next ≡ new → a' ≡ a + 1 → b' ≡ b → Turned (slot_by there rule) (stays_by there rule) (goes_by there rule) (n + 1) old next a' b'
+  by_stays e r x y z =
       as_now next a' b' x y z
-      (turn_stays (dropped_slot there reached) (stays there reached) (drops there reached) n old full small new a b t
-      (and_from (get_or there n false) (get_or reached n false) e r)
-      no
-      (cond-false (drops there reached n) Swept (slot_of old.list n) no))
+      (turn_stays (slot_by there rule) (stays_by there rule) (goes_by there rule) n old full small new a b t
+      (and_from (get_or there n false) (is_none (rule n)) e (ap (λ (o : Option Slot). is_none o) r))
+      (and_right (get_or there n false) (is_some (rule n)) (ap (λ (o : Option Slot). is_some o) r))
+      (cond-true (get_or there n false) (unwrap_or (rule n) (slot_of old.list n)) (slot_of old.list n) e ∙
+      ap (λ (o : Option Slot). unwrap_or o (slot_of old.list n)) r))
 
-  pub drop_goes : get_or there n false ≡ true → get_or reached n false ≡ false → next.list ≡ set new.list n Swept → a' ≡ a → b' ≡ b + 1 → Turned (dropped_slot there reached) (stays there reached) (drops there reached) (n + 1) old next a' b'
-  drop_goes e r x y z =
-      let yes : drops there reached n ≡ true = and_from (get_or there n false) (not (get_or reached n false)) e (not_from_false (get_or reached n false) r) in
+  pub by_goes : (x : Slot) → get_or there n false ≡ true → rule n ≡ Some x → next.list ≡ set new.list n x → a' ≡ a → b' ≡ b + 1 → Turned (slot_by there rule) (stays_by there rule) (goes_by there rule) (n + 1) old next a' b'
+  by_goes slot e r x y z =
       as_now next a' b' refl y z
-      (turn_goes (dropped_slot there reached) (stays there reached) (drops there reached) n old full small new a b t Swept next x
-      (and_right (get_or there n false) (get_or reached n false) r)
-      yes
-      (cond-true (drops there reached n) Swept (slot_of old.list n) yes))
+      (turn_goes (slot_by there rule) (stays_by there rule) (goes_by there rule) n old full small new a b t slot next x
+      (and_right (get_or there n false) (is_none (rule n)) (ap (λ (o : Option Slot). is_none o) r))
+      (and_from (get_or there n false) (is_some (rule n)) e (ap (λ (o : Option Slot). is_some o) r))
+      (cond-true (get_or there n false) (unwrap_or (rule n) (slot_of old.list n)) (slot_of old.list n) e ∙
+      ap (λ (o : Option Slot). unwrap_or o (slot_of old.list n)) r))
 
--- one turn of the fold
+-- the rules of the sweep and the fold
 
-module _ (there : List Bool) (class : List ℕ) (n : ℕ) (old : Slots) (full : length old.list ≡ 1024) (small : n < 1024) (new : Slots) (a b : ℕ)
-    (t : Turned (joined_slot there class) (leads there class) (joins there class) n old new a b) (next : Slots) (a' b' : ℕ) where
-  pub join_absent : get_or there n false ≡ false → next ≡ new → a' ≡ a → b' ≡ b → Turned (joined_slot there class) (leads there class) (joins there class) (n + 1) old next a' b'
-  join_absent e x y z =
-      as_now next a' b' x y z
-      (turn_absent (joined_slot there class) (leads there class) (joins there class) n old full small new a b t
-      (and_left (get_or there n false) (eqb (get_or class n 0) n) e)
-      (and_left (get_or there n false) (not (eqb (get_or class n 0) n)) e)
-      (cond-false
-      (joins there class n)
-      (Folded (get_or class n 0))
-      (slot_of old.list n)
-      (and_left (get_or there n false) (not (eqb (get_or class n 0) n)) e)))
+slot_same : (p r : Bool) (y x : Slot) → cond p (unwrap_or (cond r None (Some y)) x) x ≡ cond (p && not r) y x
+slot_same true true y x = refl
+slot_same true false y x = refl
+slot_same false r y x = refl
 
-  pub join_stays : get_or there n false ≡ true → get_or class n 0 ≡ n → next ≡ new → a' ≡ a + 1 → b' ≡ b → Turned (joined_slot there class) (leads there class) (joins there class) (n + 1) old next a' b'
-  join_stays e r x y z =
-      let same : eqb (get_or class n 0) n ≡ true = eq-eqb (get_or class n 0) n r in
-      let no : joins there class n ≡ false = and_right (get_or there n false) (not (eqb (get_or class n 0) n)) (not_from_true (eqb (get_or class n 0) n) same) in
-      as_now next a' b' x y z
-      (turn_stays (joined_slot there class) (leads there class) (joins there class) n old full small new a b t
-      (and_from (get_or there n false) (eqb (get_or class n 0) n) e same)
-      no
-      (cond-false (joins there class n) (Folded (get_or class n 0)) (slot_of old.list n) no))
+left_same : (p r : Bool) (y : Slot) → (p && is_none (cond r None (Some y))) ≡ (p && r)
+left_same true true y = refl
+left_same true false y = refl
+left_same false r y = refl
 
-  pub join_goes : get_or there n false ≡ true → (get_or class n 0 ≡ n → ⊥) → next.list ≡ set new.list n (Folded (get_or class n 0)) → a' ≡ a → b' ≡ b + 1 → Turned (joined_slot there class) (leads there class) (joins there class) (n + 1) old next a' b'
-  join_goes e r x y z =
-      let other : eqb (get_or class n 0) n ≡ false = ne_eqb (get_or class n 0) n r in
-      let yes : joins there class n ≡ true = and_from (get_or there n false) (not (eqb (get_or class n 0) n)) e (not_from_false (eqb (get_or class n 0) n) other) in
-      as_now next a' b' refl y z
-      (turn_goes (joined_slot there class) (leads there class) (joins there class) n old full small new a b t (Folded (get_or class n 0)) next x
-      (and_right (get_or there n false) (eqb (get_or class n 0) n) other)
-      yes
-      (cond-true (joins there class n) (Folded (get_or class n 0)) (slot_of old.list n) yes))
+gone_same : (p r : Bool) (y : Slot) → (p && is_some (cond r None (Some y))) ≡ (p && not r)
+gone_same true true y = refl
+gone_same true false y = refl
+gone_same false r y = refl
+
+module _ (there : List Bool) (n : ℕ) (old new : Slots) (a b : ℕ) where
+  pub swept_by_rule :
+      (reached : List Bool) →
+      Turned (slot_by there (sweep_rule reached)) (stays_by there (sweep_rule reached)) (goes_by there (sweep_rule reached)) n old new a b →
+      Turned (dropped_slot there reached) (stays there reached) (drops there reached) n old new a b
+  swept_by_rule reached t =
+      record {
+        list = t.list ∙ (λ i. slots_by (λ s x. slot_same (get_or there s false) (get_or reached s false) Swept x i) n old.list);
+        kept = t.kept ∙ (λ i. count_below (λ s. left_same (get_or there s false) (get_or reached s false) Swept i) n);
+        gone = t.gone ∙ (λ i. count_below (λ s. gone_same (get_or there s false) (get_or reached s false) Swept i) n);
+      }
+
+  pub folded_by_rule :
+      (class : List ℕ) →
+      Turned (slot_by there (fold_rule class)) (stays_by there (fold_rule class)) (goes_by there (fold_rule class)) n old new a b →
+      Turned (joined_slot there class) (leads there class) (joins there class) n old new a b
+  folded_by_rule class t =
+      record {
+        list =
+            t.list ∙
+            (λ i. slots_by (λ s x. slot_same (get_or there s false) (eqb (get_or class s 0) s) (Folded (get_or class s 0)) x i) n old.list);
+        kept = t.kept ∙ (λ i. count_below (λ s. left_same (get_or there s false) (eqb (get_or class s 0) s) (Folded (get_or class s 0)) i) n);
+        gone = t.gone ∙ (λ i. count_below (λ s. gone_same (get_or there s false) (eqb (get_or class s 0) s) (Folded (get_or class s 0)) i) n);
+      }

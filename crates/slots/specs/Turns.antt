@@ -1,5 +1,5 @@
 -- What a sweep and a fold make of the slots, from a mark and a class for each section.
-use Rattle.std.specs.Prelude.{◌≡◌, ℕ, Bool, true, false, cond, not, ◌&&◌, List, length, replicate, ◌==◌, slice_index, slice_index_or}
+use Rattle.std.specs.Prelude.{◌≡◌, ℕ, Bool, true, false, cond, not, ◌&&◌, List, Some, None, Option, is_some, is_none, unwrap_or, length, replicate, ◌==◌, slice_index, slice_index_or}
 use Rattle.calls.specs.declared.Slot.{Slot}
 use Rattle.calls.specs.declared.Slot.TheVariants.{Untouched, Folded, Swept}
 use Rattle.runs.specs.State.{slots_by}
@@ -40,6 +40,25 @@ joins there class s = slice_index_or there s false && not (slice_index class s =
 
 abbrev pub joined_slot : List Bool → List ℕ → ℕ → Slot → Slot
 joined_slot there class s old = cond (joins there class s) (Folded (slice_index class s)) old
+
+-- by a rule that has a slot for some sections: section s is there and stays
+abbrev pub stays_by : List Bool → (ℕ → Option Slot) → ℕ → Bool
+stays_by there rule s = slice_index_or there s false && is_none (rule s)
+
+-- and goes
+abbrev pub goes_by : List Bool → (ℕ → Option Slot) → ℕ → Bool
+goes_by there rule s = slice_index_or there s false && is_some (rule s)
+
+abbrev pub slot_by : List Bool → (ℕ → Option Slot) → ℕ → Slot → Slot
+slot_by there rule s old = cond (slice_index_or there s false) (unwrap_or (rule s) old) old
+
+-- the rule of a sweep, and of a fold
+
+abbrev pub sweep_rule : List Bool → ℕ → Option Slot
+sweep_rule reached s = cond (slice_index_or reached s false) None (Some Swept)
+
+abbrev pub fold_rule : List ℕ → ℕ → Option Slot
+fold_rule class s = cond (slice_index class s == s) None (Some (Folded (slice_index class s)))
 
 -- the first n slots made anew by a rule, with the counts of those that pass one test and the other
 pub record Turned (rule : ℕ → Slot → Slot) (p q : ℕ → Bool) (n : ℕ) (old new : Slots) (a b : ℕ) : Type 0 where

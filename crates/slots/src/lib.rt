@@ -2,10 +2,11 @@
 
 #![tactic(auto)]
 
-ghost use Rattle.std.specs.Prelude.{◌≡◌, ◌<◌, ◌≤◌, slice_set};
-ghost use Rattle.runs.specs.State.{slot_of, found_at};
+ghost use Rattle.std.specs.Prelude.{◌≡◌, ℕ, ◌<◌, ◌≤◌, Option, slice_set};
+ghost use Rattle.calls.specs.declared.Slot.{Slot};
+ghost use Rattle.runs.specs.State.{slot_of, found_at, followed};
 ghost use Rattle.runs.specs.Seen.{found_number};
-ghost use Rattle.slots.specs.Turns.{Full, fresh, untouched, stays, drops, dropped_slot, leads, joins, joined_slot, Turned};
+ghost use Rattle.slots.specs.Turns.{fresh, untouched, stays, drops, dropped_slot, leads, joins, joined_slot, Turned, stays_by, goes_by, slot_by};
 
 use calls::{Place, Slot};
 
@@ -27,52 +28,43 @@ impl Slots {
 
     // The slot of section `s`, untouched past the end.
     pub fn slot(&self, s: u16) -> Slot
-        requires { Full self.now }
         ensures { result ≡ slot_of self.now.list s }
     {
-        if s < 1024 {
-            self.list[s as usize]
-        } else {
-            Slot::Untouched
-        }
+        self.list
+            .get(usize::from(s))
+            .copied()
+            .unwrap_or(Slot::Untouched)
     }
 
     // Changes one slot.
     pub fn set(&mut self, s: u16, slot: Slot)
-        requires full { Full self.old }
-        requires small { s < 1024 }
+        requires { s < 1024 }
         ensures { self.new.list ≡ slice_set self.old.list s slot }
     {
-        self.list[s as usize] = slot;
+        self.list[usize::from(s)] = slot;
     }
 
     // Whether section `s` is untouched.
     pub fn is_untouched(&self, s: u16) -> bool
-        requires { Full self.now }
         ensures { result ≡ untouched (slot_of self.now.list s) }
     {
-        match self.slot(s) {
-            Slot::Untouched => true,
-            Slot::Folded(_) => false,
-            Slot::Swept => false,
-        }
+        matches!(self.slot(s), Slot::Untouched)
     }
 
-    // Where section `s` is found, if it is present below: folded ones are followed.
+    // Where section `s` is found, if it is present below: folded ones are followed. A section is folded into a lower one, so that s + 1
+    // slots are enough.
     pub fn found(&self, s: u16) -> Place
-        requires { Full self.now }
         ensures { result ≡ found_at self.now.list s }
     {
-        self.follow(s)
+        self.follow(s, u32::from(s) + 1)
     }
 
-    // A section is folded into a lower one, so that s + 1 steps are enough.
-    fn follow(&self, s: u16) -> Place
-        requires { Full self.now }
-        ensures { result ≡ found_at self.now.list s }
+    // Where following at most `steps` slots from section `s` on ends.
+    fn follow(&self, s: u16, steps: u32) -> Place
+        ensures { result ≡ followed steps self.now.list s }
     {
         let mut at = s;
-        for _k in 0..=s {
+        for _k in 0..steps {
             match self.slot(at) {
                 Slot::Untouched => return Place::At(at),
                 Slot::Folded(t) => at = t,
@@ -84,72 +76,74 @@ impl Slots {
 
     // The number that relocations and roots to section `s` go to.
     pub fn number(&self, s: u16) -> u16
-        requires { Full self.now }
         ensures { result ≡ found_number self.now.list s }
     {
         match self.found(s) {
             Place::At(p) => p,
-            Place::Swept => s,
-            Place::Absent => s,
+            Place::Swept | Place::Absent => s,
         }
     }
 
     // Sweeps the sections below `n` that are there and not reached: how many are left, and how many were swept.
+    #[tactic(auto, using(crate::proofs::Turning::swept_by_rule))]
     pub fn sweep(&mut self, there: &[bool; 1024], reached: &[bool; 1024], n: u16) -> (u16, u16)
-        requires full { Full self.old }
-        requires small { n ≤ 1024 }
+        requires { n ≤ 1024 }
         ensures { Turned (dropped_slot there.now reached.now) (stays there.now reached.now) (drops there.now reached.now) n self.old self.new result.0 result.1 }
     {
-        self.drop_unreached(there, reached, n)
-    }
-
-    fn drop_unreached(&mut self, there: &[bool; 1024], reached: &[bool; 1024], n: u16) -> (u16, u16)
-        requires full { Full self.old }
-        requires small { n ≤ 1024 }
-        ensures { Turned (dropped_slot there.now reached.now) (stays there.now reached.now) (drops there.now reached.now) n self.old self.new result.0 result.1 }
-    {
-        let mut left = 0;
-        let mut dropped = 0;
-        for s in 0..n {
-            if there[s as usize] {
-                if reached[s as usize] {
-                    left += 1;
-                } else {
-                    self.set(s, Slot::Swept);
-                    dropped += 1;
-                }
+        let swept = |s| {
+            if reached[usize::from(s)] {
+                None
+            } else {
+                Some(Slot::Swept)
             }
-        }
-        (left, dropped)
+        };
+        self.turn(there, n, swept)
     }
 
     // Folds each section below `n` that is there into the one that leads its class: how many are left, and how many were folded.
+    #[tactic(auto, using(crate::proofs::Turning::folded_by_rule))]
     pub fn fold(&mut self, there: &[bool; 1024], class: &[u16; 1024], n: u16) -> (u16, u16)
-        requires full { Full self.old }
-        requires small { n ≤ 1024 }
+        requires { n ≤ 1024 }
         ensures { Turned (joined_slot there.now class.now) (leads there.now class.now) (joins there.now class.now) n self.old self.new result.0 result.1 }
     {
-        self.join_classes(there, class, n)
+        let folded = |s| {
+            let lead = class[usize::from(s)];
+            if lead == s {
+                None
+            } else {
+                Some(Slot::Folded(lead))
+            }
+        };
+        self.turn(there, n, folded)
     }
 
-    fn join_classes(&mut self, there: &[bool; 1024], class: &[u16; 1024], n: u16) -> (u16, u16)
-        requires full { Full self.old }
+    // Gives each section below `n` that is there the slot that `choose` has for it, and leaves it where there is none: how many are left,
+    // and how many got one.
+    fn turn<F: Fn(u16) -> Option<Slot>>(
+        &mut self,
+        there: &[bool; 1024],
+        n: u16,
+        choose: F,
+    ) -> (u16, u16)
+        ghost rule: { ℕ → Option Slot }
         requires small { n ≤ 1024 }
-        ensures { Turned (joined_slot there.now class.now) (leads there.now class.now) (joins there.now class.now) n self.old self.new result.0 result.1 }
+        requires callable { (s : ℕ) → s < 1024 → F.pre choose s }
+        requires chosen { (s : ℕ) (r : _) → s < 1024 → F.post choose s r → r ≡ rule s }
+        ensures { Turned (slot_by there.now rule) (stays_by there.now rule) (goes_by there.now rule) n self.old self.new result.0 result.1 }
     {
         let mut left = 0;
-        let mut joined = 0;
+        let mut gone = 0;
         for s in 0..n {
-            if there[s as usize] {
-                let lead = class[s as usize];
-                if lead == s {
-                    left += 1;
-                } else {
-                    self.set(s, Slot::Folded(lead));
-                    joined += 1;
+            if there[usize::from(s)] {
+                match choose(s) {
+                    None => left += 1,
+                    Some(slot) => {
+                        self.set(s, slot);
+                        gone += 1;
+                    }
                 }
             }
         }
-        (left, joined)
+        (left, gone)
     }
 }

@@ -1,6 +1,6 @@
-use Rattle.std.proofs.Common.{◌≡◌, suc, ◌-◌}
-use Rattle.runs.specs.State.{followed, found_at}
+use Rattle.std.proofs.Common.{◌≡◌, ◌-◌}
+use Rattle.runs.specs.State.{followed}
 use Rattle.slots.proofs.Slots.follow.Given as goal
 
 abbrev pub invariant-loop-k : goal.invariant-loop-k
-invariant-loop-k l = followed (suc l.s - l._k) l.self.list l.at ≡ found_at l.self.list l.s
+invariant-loop-k l = followed (l.steps - l._k) l.self.list l.at ≡ followed l.steps l.self.list l.s
