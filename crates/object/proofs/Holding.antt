@@ -7,40 +7,12 @@ use Rattle.field.specs.Fields.{half}
 use Rattle.checklist.specs.Checks.{first_fault}
 use Rattle.checklist.proofs.Checks.{accepts}
 use Rattle.rules.specs.declared.Notes.{Notes}
-use Rattle.rules.specs.declared.Symbols.{Symbols}
 use Rattle.rules.specs.Notes.{Noted, part_note, parts}
 use Rattle.rules.specs.Verdict.{checks, accepted}
 use Rattle.reading.proofs.Ending.{unlisted}
 use Rattle.model.specs.Graph.{empty}
-use Rattle.object.specs.declared.held.Object.{Object}
 use Rattle.object.specs.Meaning.{meaning}
-use Rattle.object.specs.Held.{held, Kept}
-use Rattle.object.specs.Reader.{file_of}
-
-pub kept_of : (x : Object) → Kept (file_of x) x.notes
-kept_of x =
-    record {
-      from_right = x.begun;
-      number_right = x.counted;
-      parts_right = x.parted;
-      significant_right = x.signed;
-      listed_right = x.marked;
-      few_roots = x.few;
-      roots_right = x.rooted;
-    }
-
--- of a file that was read
-pub kept_from : (b : List ℕ) (x : Notes) → Noted b x → Kept b x
-kept_from b x w =
-    record {
-      from_right = ap (λ (y : Symbols). y.from) w.symbols_right;
-      number_right = ap (λ (y : Symbols). y.count) w.symbols_right;
-      parts_right = w.parts_right;
-      significant_right = w.listing_right;
-      listed_right = w.marks_right;
-      few_roots = w.few_roots;
-      roots_right = w.roots_right;
-    }
+use Rattle.object.specs.Held.{held}
 
 pub read_held : (b : List ℕ) → first_fault (checks b) ≡ None → held b ≡ true
 read_held b e = or_right (eqb (length b) 0) (accepted b) (accepts (checks b) e)
@@ -62,21 +34,20 @@ no_parts : replicate 1024 65535 ≡ parts []
 unfolding half
 no_parts = fill_by_all (part_note [] 0) (replicate 1024 65535) 1024 0 (length-replicate {A = ℕ} 1024 65535) (λ k h. get_or-replicate {A = ℕ} 1024 k 65535 0 h)
 
-kept_nothing : Kept [] nothing
+noted_nothing : Noted [] nothing
 unfolding half
-kept_nothing =
+noted_nothing =
     record {
-      from_right = refl;
-      number_right = refl;
+      symbols_right = refl;
       parts_right = no_parts;
-      significant_right = refl;
-      listed_right = (unlisted [] refl).1;
+      listing_right = refl;
+      marks_right = (unlisted [] refl).1;
       few_roots = omega arith;
       roots_right = refl;
     }
 
-pub none_kept : (b : List ℕ) → b ≡ [] → Kept b nothing
-none_kept b e = subst (λ (x : List ℕ). Kept x nothing) (sym e) kept_nothing
+pub none_noted : (b : List ℕ) → b ≡ [] → Noted b nothing
+none_noted b e = subst (λ (x : List ℕ). Noted x nothing) (sym e) noted_nothing
 
 pub none_held : (b : List ℕ) → b ≡ [] → held b ≡ true
 none_held b e = ap held e

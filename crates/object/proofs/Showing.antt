@@ -1,42 +1,51 @@
 -- The answers to the questions, from what is read and noted.
-use Rattle.std.proofs.Common.{◌≡◌, ℕ, ◌+◌, ◌*◌, ◌/◌, ◌<◌, ◌≤◌, Bool, true, false, cond, not, ◌&&◌, ltb, leb, ◌⊎◌, List, map, length, get_or, take, drop, replicate, is_some, Some, None, Ok, Err, Option, sym, refl, ap, ◌∙◌, subst, inl, inr, arith}
+use Rattle.std.proofs.Common.{◌≡◌, ℕ, ◌+◌, ◌*◌, ◌/◌, ◌<◌, ◌≤◌, max, Bool, true, false, cond, not, ◌&&◌, ◌==◌, ltb, leb, ◌⊎◌, List, map, length, get_or, take, drop, replicate, is_some, Some, None, Ok, Err, Option, sym, refl, ap, ◌∙◌, inl, inr, arith}
 use Rattle.std.specs.List.{slice_get}
-use Rattle.std.proofs.lemmas.Bool.{cases_lt, eq-eqb, ne_eqb, ltb-true, lt-ltb, leb-false}
+use Rattle.std.specs.Result.{result_ok, result_unwrap_or}
+use Rattle.std.proofs.lemmas.Bool.{cases_lt, eq-eqb, ne_eqb, eqb-true, eqb-false, ltb-true, lt-ltb, le-leb, leb-false}
 use Rattle.std.proofs.lemmas.List.{get_or-replicate, get_or-map, get_or-take, get_or-drop, length-replicate, length-take, length-drop}
 use Rattle.std.proofs.lemmas.List.FromFn.{get_or-map-range_with_len, length-map-range_with_len}
 use Rattle.std.proofs.lemmas.Option.{slice_get-get_or, slice_get_past}
-use Rattle.model.specs.declared.Record.{Record}
 use Rattle.model.specs.declared.Setting.{Setting}
 use Rattle.model.specs.declared.Setting.TheVariants.{Foldable, Pinned}
-use Rattle.model.specs.Graph.{section_of, told_record, record_of}
+use Rattle.model.specs.Graph.{Body, section_of, told_record, record_of, told_byte, byte_of, told_relocation, relocation_of}
 use Rattle.elf.specs.declared.Header.{Header}
 use Rattle.elf.specs.Layout.{sections, section, present, plain, entry_at}
 use Rattle.rules.specs.Rules.{part, symbol}
 use Rattle.rules.specs.Listing.{significance, listed}
-use Rattle.rules.specs.Notes.{part_note, or_none, listed_in}
+use Rattle.rules.specs.Notes.{part_note, or_none, listed_in, Noted}
 use Rattle.rules.specs.Listing.{listing}
 use Rattle.rules.specs.declared.Notes.{Notes}
 use Rattle.object.specs.Meaning.{flags_of, alignment_of, low, bytes_of, relocation_at, relocations_in, setting_of, body, meaning}
-use Rattle.object.specs.Held.{held, header_of, shown, Kept}
-use Rattle.fault.specs.declared.Fault.{Fault}
-use Rattle.field.specs.Fields.{within, short}
+use Rattle.object.specs.Held.{held, header_of, shown}
+use Rattle.field.specs.Fields.{half, within, short}
 use Rattle.elf.specs.Layout.{place}
 use Rattle.rules.specs.Rules.{relocates}
 use Rattle.reading.proofs.Firsts.{first_where_is}
-use Rattle.object.specs.Facts.{Facts, held_facts, held_few, header_ends, Sound, sound, bytes_length, Whole, entered, tables, value_within, inside}
-use Rattle.elf.specs.declared.Symbol.{Symbol}
-use Rattle.elf.specs.declared.Entry.{Entry}
-use Rattle.rules.specs.Rules.{symbols}
-use Rattle.object.specs.Held.{Told}
+use Rattle.object.specs.Facts.{Facts, held_facts, held_few, held_short, header_ends, Sound, sound, bytes_length, Whole, entered, tables, value_within, inside}
+use Rattle.object.specs.Held.{Ready}
 use Rattle.object.specs.Lawful.{section_at, section_past, range_low, range_high}
 
--- a section that is shown
-pub shown_some : (b : List ℕ) (s : ℕ) (h : Header) → Some h ≡ shown b s → (s < sections b) × (present (section b s) ≡ true) × (h ≡ section b s)
-shown_some b s h e = go (ltb s (sections b)) (present (section b s)) refl refl e
+-- a section that is shown: its header, and what it is in the graph
+pub record Seen (b : List ℕ) (s : ℕ) (h : Header) : Type 0 where
+  pub below : s < sections b
+  pub header : h ≡ section b s
+  pub sound : Sound b h
+  pub body : section_of (meaning b) s ≡ Some (body b s)
+
+pub seen : (b : List ℕ) (s : ℕ) (h : Header) → held b ≡ true → Some h ≡ shown b s → Seen b s h
+seen b s h w e = go (ltb s (sections b)) (present (section b s)) refl refl e
   where
-    go : (x y : Bool) → ltb s (sections b) ≡ x → present (section b s) ≡ y → Some h ≡ cond (x && y) (Some (section b s)) None
-        → (s < sections b) × (present (section b s) ≡ true) × (h ≡ section b s)
-    go true true p q e' = (ltb-true s (sections b) p, q, cc)
+    go : (x y : Bool) → ltb s (sections b) ≡ x → present (section b s) ≡ y → Some h ≡ cond (x && y) (Some (section b s)) None → Seen b s h
+    go true true p q e' =
+        let l = ltb-true s (sections b) p
+        in let same : h ≡ section b s = cc
+        in record {
+          below = l;
+          header = same;
+          sound = rw same (sound b s (held_facts b s w l) l q);
+          body = section_at b s l ∙ ap (λ (t : Bool). cond t (Some (body b s)) None) q;
+        }
     go true false p q e' = let z : ◌≡◌ {A = ℕ} 0 1 = cc in absurd (omega arith)
     go false y p q e' = let z : ◌≡◌ {A = ℕ} 0 1 = cc in absurd (omega arith)
 
@@ -52,18 +61,17 @@ shown_none b s e = go (cases_lt s (sections b)) (present (section b s)) refl
         in let f : None ≡ Some (section b s) = e ∙ (ap (λ (t : Bool). cond (t && present (section b s)) (Some (section b s)) None) lt ∙ ap (λ (t : Bool). cond t (Some (section b s)) None) q)
         in let z : ◌≡◌ {A = ℕ} 0 1 = cc in absurd (omega arith)
 
--- a section that is shown is the one of the graph
-pub shown_body : (b : List ℕ) (s : ℕ) → s < sections b → present (section b s) ≡ true → section_of (meaning b) s ≡ Some (body b s)
-shown_body b s l p = section_at b s l ∙ ap (λ (t : Bool). cond t (Some (body b s)) None) p
-
 -- the part that is noted
-pub part_noted : (b : List ℕ) (x : Notes) (s : ℕ) → Kept b x → s < 1024 → get_or x.parts s 0 ≡ or_none (part b s (sections b))
+pub part_noted : (b : List ℕ) (x : Notes) (s : ℕ) → Noted b x → s < 1024 → get_or x.parts s 0 ≡ or_none (part b s (sections b))
 part_noted b x s w l = ap (λ (xs : List ℕ). get_or xs s 0) w.parts_right ∙ get_or-map-range_with_len (part_note b (sections b)) 0 1024 s s 0 l (omega arith)
 
-pub listed_noted : (b : List ℕ) (x : Notes) (s : ℕ) → Kept b x → s < 1024 → get_or x.listed s false ≡ listed b s
-listed_noted b x s w l = ap (λ (xs : List Bool). get_or xs s false) w.listed_right ∙ get_or-map-range_with_len (listed_in b (listing b)) 0 1024 s s false l (omega arith)
+pub listed_noted : (b : List ℕ) (x : Notes) (s : ℕ) → Noted b x → s < 1024 → get_or x.listed s false ≡ listed b s
+listed_noted b x s w l = ap (λ (xs : List Bool). get_or xs s false) w.marks_right ∙ get_or-map-range_with_len (listed_in b (listing b)) 0 1024 s s false l (omega arith)
 
 -- byte i of a section
+pub byte_in : (b : List ℕ) (s i : ℕ) (h : Header) → Seen b s h → byte_of (meaning b) s i ≡ slice_get (bytes_of b h) i
+byte_in b s i h w = ap (λ (o : Option Body). told_byte o i) w.body ∙ ap (λ (x : Header). slice_get (bytes_of b x) i) (sym w.header)
+
 pub byte_some : (b : List ℕ) (h : Header) (i : ℕ) → Sound b h → i < h.size → (h.kind ≡ 8 → ⊥) → slice_get (bytes_of b h) i ≡ Some (low (get_or b (h.offset + i) 0))
 byte_some b h i w l k =
     let len = bytes_length b h w
@@ -85,7 +93,14 @@ byte_zero b h i l k =
 pub byte_past : (b : List ℕ) (h : Header) (i : ℕ) → Sound b h → h.size ≤ i → slice_get (bytes_of b h) i ≡ None
 byte_past b h i w l = slice_get_past (bytes_of b h) i (omega (arith, bytes_length b h w))
 
--- relocation j of a section
+-- relocation j of a section with relocations in section r, whose header is h
+pub relocation_in : (b : List ℕ) (s r j : ℕ) (h : Header) → Seen b s h → part b s (sections b) ≡ Some r
+    → relocation_of (meaning b) s j ≡ slice_get (relocations_in b (Some r)) j
+relocation_in b s r j h w e = ap (λ (o : Option Body). told_relocation o j) w.body ∙ ap (λ (o : Option ℕ). slice_get (relocations_in b o) j) e
+
+pub relocation_none : (b : List ℕ) (s j : ℕ) (h : Header) → Seen b s h → part b s (sections b) ≡ None → relocation_of (meaning b) s j ≡ None
+relocation_none b s j h w e = ap (λ (o : Option Body). told_relocation o j) w.body ∙ ap (λ (o : Option ℕ). slice_get (relocations_in b o) j) e
+
 pub relocation_some : (b : List ℕ) (r j : ℕ) → j < (section b r).size / 24 → slice_get (relocations_in b (Some r)) j ≡ Some (relocation_at b (section b r).offset j)
 relocation_some b r j l =
     let len = length-map-range_with_len (relocation_at b (section b r).offset) 0 ((section b r).size / 24)
@@ -96,29 +111,24 @@ pub relocation_past : (b : List ℕ) (r j : ℕ) → (section b r).size / 24 ≤
 relocation_past b r j l =
     slice_get_past (relocations_in b (Some r)) j (omega (arith, length-map-range_with_len (relocation_at b (section b r).offset) 0 ((section b r).size / 24)))
 
--- a field that is refused runs past the end
-pub runs_past : {A : Type 0} (b : List ℕ) (p size : ℕ) (f : Fault) (y : A) → Err f ≡ within b p size y → length b < p + size
-runs_past b p size f y e = go (leb (p + size) (length b)) refl e
-  where
-    go : (t : Bool) → leb (p + size) (length b) ≡ t → Err f ≡ cond t (Ok y) (Err (short b)) → length b < p + size
-    go true q e' = let z : ◌≡◌ {A = ℕ} 0 1 = cc in absurd (omega arith)
-    go false q e' = leb-false (p + size) (length b) q
+-- what ends within the bytes is read
+pub part_read : {A : Type 0} (b : List ℕ) (p size : ℕ) (y : A) → p + size ≤ length b → result_ok (within b p size y) ≡ Some y
+part_read b p size y l = ap (λ (t : Bool). result_ok (cond t (Ok y) (Err (short b)))) (le-leb (p + size) (length b) l)
 
 -- the header of a section is there
-pub never_cut : (b : List ℕ) (s : ℕ) (f : Fault) → held b ≡ true → s < sections b → Err f ≡ within b (place b s) 64 (section b s) → ⊥
-never_cut b s f h l e = omega (arith, runs_past b (place b s) 64 f (section b s) e, header_ends b s (held_facts b s h l) l)
+pub header_read : (b : List ℕ) (s : ℕ) → held b ≡ true → s < sections b → result_ok (within b (place b s) 64 (section b s)) ≡ Some (section b s)
+header_read b s h l = part_read b (place b s) 64 (section b s) (header_ends b s (held_facts b s h l) l)
 
--- a section that is not present is not shown
-pub hidden : (b : List ℕ) (s : ℕ) → present (section b s) ≡ false → None ≡ shown b s
-hidden b s q = go (ltb s (sections b)) (present (section b s)) q
+-- how many sections there are: none where there is no file
+pub count_read : (b : List ℕ) → held b ≡ true → result_unwrap_or (within b 60 2 (half b 60)) 0 ≡ sections b
+count_read b h = go (leb 62 (length b)) refl
   where
-    go : (x y : Bool) → y ≡ false → None ≡ cond (x && y) (Some (section b s)) None
-    go true false e = refl
-    go false y e = refl
-    go true true e = let z : ◌≡◌ {A = ℕ} 0 1 = cc in absurd (omega arith)
+    go : (t : Bool) → leb 62 (length b) ≡ t → result_unwrap_or (cond t (Ok (half b 60)) (Err (short b))) 0 ≡ sections b
+    go true q = refl
+    go false q = held_short b h (leb-false 62 (length b) q)
 
 -- what a note of a part tells
-pub no_part : (b : List ℕ) (x : Notes) (s : ℕ) → held b ≡ true → Kept b x → s < sections b → get_or x.parts s 0 ≡ 65535 → part b s (sections b) ≡ None
+pub no_part : (b : List ℕ) (x : Notes) (s : ℕ) → held b ≡ true → Noted b x → s < sections b → get_or x.parts s 0 ≡ 65535 → part b s (sections b) ≡ None
 no_part b x s h w l e = go (part b s (sections b)) refl
   where
     go : (o : Option ℕ) → part b s (sections b) ≡ o → part b s (sections b) ≡ None
@@ -129,7 +139,7 @@ no_part b x s h w l e = go (part b s (sections b)) refl
         in let same : 65535 ≡ r = sym e ∙ (part_noted b x s w (omega arith) ∙ ap or_none q)
         in absurd (omega (arith, at.0))
 
-pub some_part : (b : List ℕ) (x : Notes) (s : ℕ) → held b ≡ true → Kept b x → s < sections b → (get_or x.parts s 0 ≡ 65535 → ⊥)
+pub some_part : (b : List ℕ) (x : Notes) (s : ℕ) → held b ≡ true → Noted b x → s < sections b → (get_or x.parts s 0 ≡ 65535 → ⊥)
     → (part b s (sections b) ≡ Some (get_or x.parts s 0)) × (get_or x.parts s 0 < sections b)
 some_part b x s h w l e = go (part b s (sections b)) refl
   where
@@ -150,35 +160,34 @@ pub part_gone : (b : List ℕ) (o : Option ℕ) → None ≡ header_of b o → o
 part_gone b None e = refl
 part_gone b (Some r) e = let z : ◌≡◌ {A = ℕ} 0 1 = cc in absurd (omega arith)
 
+-- the alignment as the larger of it and 1
+pub alignment_is : (h : Header) → max h.alignment 1 ≡ alignment_of h
+alignment_is h = go (h.alignment == 0) refl
+  where
+    go : (t : Bool) → (h.alignment == 0) ≡ t → max h.alignment 1 ≡ cond t 1 h.alignment
+    go true q = grind (arith, eqb-true h.alignment 0 q)
+    go false q = grind (arith, eqb-false h.alignment 0 q)
+
 -- the record of a section that is shown
-pub record_is : (b : List ℕ) (s fl al sz rl : ℕ) (st : Setting) → s < sections b → present (section b s) ≡ true
-    → fl ≡ flags_of (section b s) → al ≡ alignment_of (section b s) → sz ≡ length (bytes_of b (section b s))
+pub record_is : (b : List ℕ) (s al rl : ℕ) (st : Setting) (h : Header) → Seen b s h → al ≡ alignment_of h
     → rl ≡ length (relocations_in b (part b s (sections b))) → st ≡ setting_of b s
-    → Some (record { flags = fl; alignment = al; size = sz; relocations = rl; setting = st }) ≡ record_of (meaning b) s
-record_is b s fl al sz rl st l p e1 e2 e3 e4 e5 =
-    let f : ℕ → ℕ → ℕ → ℕ → Setting → Option Record = λ a c d e g. Some (record { flags = a; alignment = c; size = d; relocations = e; setting = g })
-    in ap (λ (a : ℕ). f a al sz rl st) e1
-    ∙ (ap (λ (a : ℕ). f (flags_of (section b s)) a sz rl st) e2
-    ∙ (ap (λ (a : ℕ). f (flags_of (section b s)) (alignment_of (section b s)) a rl st) e3
-    ∙ (ap (λ (a : ℕ). f (flags_of (section b s)) (alignment_of (section b s)) (length (bytes_of b (section b s))) a st) e4
-    ∙ (ap (λ (a : Setting). f (flags_of (section b s)) (alignment_of (section b s)) (length (bytes_of b (section b s))) (length (relocations_in b (part b s (sections b)))) a) e5
-    ∙ sym (ap told_record (shown_body b s l p))))))
+    → Some (record { flags = flags_of h; alignment = al; size = h.size; relocations = rl; setting = st }) ≡ record_of (meaning b) s
+record_is b s al rl st h w e1 e2 e3 =
+    let size : h.size ≡ length (bytes_of b (section b s)) = sym (bytes_length b h w.sound) ∙ ap (λ (x : Header). length (bytes_of b x)) w.header
+    in let flags : flags_of h ≡ flags_of (section b s) = ap flags_of w.header
+    in let alignment : al ≡ alignment_of (section b s) = e1 ∙ ap alignment_of w.header
+    in (λ i. Some (record { flags = flags i; alignment = alignment i; size = size i; relocations = e2 i; setting = e3 i })) ∙ sym (ap told_record w.body)
 
 -- the setting from the notes
-pub setting_is : (b : List ℕ) (x : Notes) (s : ℕ) (h : Header) (r : Setting) → Kept b x → s < 1024 → h ≡ section b s
+pub setting_is : (b : List ℕ) (x : Notes) (s : ℕ) (h : Header) (r : Setting) → Noted b x → s < 1024 → h ≡ section b s
     → r ≡ cond (plain h && (x.significant && not (get_or x.listed s false))) Foldable Pinned → r ≡ setting_of b s
 setting_is b x s h r w l e q =
     q
     ∙ (ap (λ (y : Header). cond (plain y && (x.significant && not (get_or x.listed s false))) Foldable Pinned) e
-    ∙ (ap (λ (y : Bool). cond (plain (section b s) && (y && not (get_or x.listed s false))) Foldable Pinned) w.significant_right
+    ∙ (ap (λ (y : Bool). cond (plain (section b s) && (y && not (get_or x.listed s false))) Foldable Pinned) w.listing_right
     ∙ ap (λ (y : Bool). cond (plain (section b s) && (is_some (significance b) && not y)) Foldable Pinned) (listed_noted b x s w l)))
 
--- an entry that can be told as a relocation
-pub record Ready (b : List ℕ) (q : ℕ) : Type 0 where
-  pub ends : q + 24 ≤ length b
-  pub below : (entry_at b q).symbol < (symbols b).count
-  pub fits : Told (symbol b (entry_at b q).symbol) (entry_at b q)
-
+-- each entry with a relocation can be told as one
 pub ready : (b : List ℕ) (s r j : ℕ) → Facts b → s < sections b → Whole b s r → j < (section b r).size / 24 → Ready b ((section b r).offset + 24 * j)
 ready b s r j f l w k =
     let e = entered b s r j w k
@@ -186,7 +195,7 @@ ready b s r j f l w k =
     in let z = sound b s f l w.here
     in record {
       ends = omega (arith, w.ends);
-      below = e.symbol_below;
+      symbol_ends = omega (arith, e.symbol_below, t.ends);
       fits = record {
         offset = omega (arith, e.offset, z.size);
         symbol = omega (arith, e.symbol_below, t.few);
@@ -198,6 +207,3 @@ ready b s r j f l w k =
             in omega (arith, v, (sound b (symbol b (entry_at b ((section b r).offset + 24 * j)).symbol).section f at.0 at.1).size);
       };
     }
-
-pub told_moved : (y y' : Symbol) (e e' : Entry) → y ≡ y' → e ≡ e' → Told y' e' → Told y e
-told_moved y y' e e' p q w = subst (λ (z : Symbol). Told z e) (sym p) (subst (λ (z : Entry). Told y' z) (sym q) w)

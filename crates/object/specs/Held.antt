@@ -1,14 +1,11 @@
 -- What a reader holds: no file, or one that was accepted, and its notes.
-use Rattle.std.specs.Prelude.{◌≡◌, ℕ, ◌^◌, ◌<◌, ◌≤◌, Bool, false, cond, ◌&&◌, ◌||◌, List, length, take, pos, negsuc, ◌≤ℤ◌, is_some, Some, None, Option, ◌==◌, nat_lt}
+use Rattle.std.specs.Prelude.{◌≡◌, ℕ, ◌+◌, ◌*◌, ◌^◌, ◌<◌, ◌≤◌, Bool, false, cond, ◌&&◌, ◌||◌, List, length, pos, negsuc, ◌≤ℤ◌, Some, None, Option, ◌==◌, nat_lt}
 use Rattle.elf.specs.declared.Header.{Header}
 use Rattle.elf.specs.declared.Symbol.{Symbol}
 use Rattle.elf.specs.declared.Entry.{Entry}
-use Rattle.elf.specs.Layout.{sections, section, present, outside}
+use Rattle.elf.specs.Layout.{sections, section, present, outside, entry_at}
 use Rattle.rules.specs.Verdict.{accepted}
-use Rattle.rules.specs.Rules.{symbols}
-use Rattle.rules.specs.Listing.{significance}
-use Rattle.rules.specs.Notes.{parts, marks, roots}
-use Rattle.rules.specs.declared.Notes.{Notes}
+use Rattle.rules.specs.Rules.{symbol, symbols}
 
 -- no file, or one that meets every rule
 abbrev pub held : List ℕ → Bool
@@ -31,12 +28,8 @@ pub record Told (y : Symbol) (e : Entry) : Type 0 where
   pub high : e.addend ≤ℤ pos 2147483647
   pub value : outside y.section ≡ false → y.value < 2 ^ 16
 
--- the notes are those of the object
-pub record Kept (b : List ℕ) (x : Notes) : Type 0 where
-  pub from_right : x.symbols.from ≡ (symbols b).from
-  pub number_right : x.symbols.count ≡ (symbols b).count
-  pub parts_right : x.parts ≡ parts b
-  pub significant_right : x.significant ≡ is_some (significance b)
-  pub listed_right : x.listed ≡ marks b
-  pub few_roots : x.count ≤ 1024
-  pub roots_right : take x.count x.roots ≡ roots b
+-- an entry and its symbol stand in the file, and can be told as a relocation
+pub record Ready (b : List ℕ) (q : ℕ) : Type 0 where
+  pub ends : q + 24 ≤ length b
+  pub symbol_ends : (symbols b).from + 24 * (entry_at b q).symbol + 24 ≤ length b
+  pub fits : Told (symbol b (entry_at b q).symbol) (entry_at b q)

@@ -157,11 +157,15 @@ kept_few p (x ∷ xs) = go (p x) (kept_few p xs)
     go true h = omega arith
     go false h = omega arith
 
+-- as many roots as sections at most
+pub roots_few : (b : List ℕ) → held b ≡ true → length (roots b) ≤ 1024
+roots_few b h = omega (arith, kept_few (is_root b) (range_with_len 0 (sections b)), length-range_with_len 0 (sections b), held_few b h)
+
 pub lawful : (b : List ℕ) → held b ≡ true → Valid (meaning b)
 lawful b h =
     record {
       few = omega (arith, length-map-range_with_len (told_section b) 0 (sections b), held_few b h);
-      few_roots = omega (arith, kept_few (is_root b) (range_with_len 0 (sections b)), length-range_with_len 0 (sections b), held_few b h);
+      few_roots = omega (arith, roots_few b h);
       bodies = λ s x e. bodies_law s x e (cases_lt s (sections b));
       rooted = roots_law b;
     }

@@ -4,6 +4,5 @@
 #![tactic(auto)]
 
 mod held;
-mod view;
 
 pub use held::Object;
