@@ -8,7 +8,7 @@ ghost use Rattle.summary.specs.Summed.{summary_of, one_present, one_pinned, its_
 use graph::SectionGraph;
 use model::{Record, Setting};
 
-#[derive(Clone, Copy)]
+#[derive(Clone, Copy, PartialEq, Eq, Debug)]
 pub struct Summary {
     // all numbers, absent sections included
     pub sections: u16,
@@ -19,47 +19,34 @@ pub struct Summary {
     pub roots: u16,
 }
 
-fn one_present(told: &Option<Record>) -> u16
-    ensures { result ≡ one_present told.now }
+// What a section counts for, by its record: an absent one for nothing.
+
+fn one_present(told: Option<Record>) -> u16
+    ensures { result ≡ one_present told }
 {
-    match told {
-        Some(_) => 1,
-        None => 0,
-    }
+    u16::from(told.is_some())
 }
 
-fn one_pinned(told: &Option<Record>) -> u16
-    ensures { result ≡ one_pinned told.now }
+fn one_pinned(told: Option<Record>) -> u16
+    ensures { result ≡ one_pinned told }
 {
-    match told {
-        Some(x) => match x.setting {
-            Setting::Foldable => 0,
-            Setting::Pinned => 1,
-        },
-        None => 0,
-    }
+    told.map_or(0, |x| u16::from(x.setting == Setting::Pinned))
 }
 
-fn its_bytes(told: &Option<Record>) -> u16
-    ensures { result ≡ its_bytes told.now }
+fn its_bytes(told: Option<Record>) -> u16
+    ensures { result ≡ its_bytes told }
 {
-    match told {
-        Some(x) => x.size,
-        None => 0,
-    }
+    told.map_or(0, |x| x.size)
 }
 
-fn its_relocations(told: &Option<Record>) -> u16
-    ensures { result ≡ its_relocations told.now }
+fn its_relocations(told: Option<Record>) -> u16
+    ensures { result ≡ its_relocations told }
 {
-    match told {
-        Some(x) => x.relocations,
-        None => 0,
-    }
+    told.map_or(0, |x| x.relocations)
 }
 
-fn tally<G: SectionGraph>(graph: &G) -> Summary
-    requires { G.SectionGraph.sound graph.now }
+// Counts what a section graph holds.
+pub fn summarize<G: SectionGraph>(graph: &G) -> Summary
     ensures { result ≡ summary_of (G.SectionGraph.graph graph.now) }
 {
     let sections = graph.count();
@@ -69,10 +56,10 @@ fn tally<G: SectionGraph>(graph: &G) -> Summary
     let mut relocations = 0u32;
     for s in 0..sections {
         let told = graph.record_of(s);
-        present += one_present(&told);
-        pinned += one_pinned(&told);
-        bytes += u32::from(its_bytes(&told));
-        relocations += u32::from(its_relocations(&told));
+        present += one_present(told);
+        pinned += one_pinned(told);
+        bytes += u32::from(its_bytes(told));
+        relocations += u32::from(its_relocations(told));
     }
     Summary {
         sections,
@@ -82,12 +69,4 @@ fn tally<G: SectionGraph>(graph: &G) -> Summary
         relocations,
         roots: graph.root_count(),
     }
-}
-
-// Counts what a section graph holds.
-pub fn summarize<G: SectionGraph>(graph: &G) -> Summary
-    requires { G.SectionGraph.sound graph.now }
-    ensures { result ≡ summary_of (G.SectionGraph.graph graph.now) }
-{
-    tally(graph)
 }

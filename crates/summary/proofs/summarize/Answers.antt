@@ -1,6 +1,6 @@
 use Rattle.std.proofs.Common.{◌∙◌, arith}
 use Rattle.summary.proofs.Sums.{sums_none, sums_more, sums_all, one_or_none}
-use Rattle.summary.proofs.tally.Goals as goal
+use Rattle.summary.proofs.summarize.Goals as goal
 
 pub loop-s-init : goal.loop-s-init
 loop-s-init g c = sums_none (g.G.SectionGraph.graph c.args.graph.now)
