@@ -13,7 +13,7 @@ use Rattle.unfolding.specs.Telling.{told_target}
 use Rattle.unfolding.specs.Sections.{Face, face_of, same_face, rules}
 use Rattle.unfolding.proofs.Same.{decides_both, integer_decides, list_decides}
 use Rattle.unfolding.proofs.Rules.{lawful_rules}
-use Rattle.content.specs.Core.{unnamed, bare, same_outside, same_bare, Core, core_of, same_core, told_count, told_face, same_told_face, mixed_arm, mixed_arms}
+use Rattle.content.specs.Core.{unnamed, bare, same_outside, same_bare, Core, core_of, same_core, told_count, told_face, mixed_arm, mixed_arms}
 use Rattle.content.specs.Aims.{relocations_in}
 use Rattle.content.proofs.Tested.{relocation_nth, count_length}
 
@@ -98,7 +98,7 @@ face_alignment (Some b) = refl
 
 pub core_parts :
     (a b : Option Body) (f l y : Bool) →
-    f ≡ same_told_face (told_record a) (told_record b) →
+    f ≡ (eqb (told_face (told_record a)).0 (told_face (told_record b)).0 && eqb (told_face (told_record a)).1 (told_face (told_record b)).1) →
     l ≡ same_list same_bare (relocations_in a) (relocations_in b) →
     Decides y (bytes_in a ≡ bytes_in b) →
     (f && (l && y)) ≡ same_core a b
@@ -110,7 +110,7 @@ core_parts a b f l y e h d =
     (λ (p : (face_of a).bytes ≡ (face_of b).bytes). bytes_face a ∙ (p ∙ sym (bytes_face b)))
     (λ q. sym (bytes_face a) ∙ (q ∙ bytes_face b))
     (list_decides eqb Decides-eqb (face_of a).bytes (face_of b).bytes)) in
-    let faces : same_told_face (told_record a) (told_record b) ≡ (eqb (face_of a).flags (face_of b).flags && eqb (face_of a).alignment (face_of b).alignment) =
+    let faces : (eqb (told_face (told_record a)).0 (told_face (told_record b)).0 && eqb (told_face (told_record a)).1 (told_face (told_record b)).1) ≡ (eqb (face_of a).flags (face_of b).flags && eqb (face_of a).alignment (face_of b).alignment) =
     rw (face_flags a, face_flags b, face_alignment a, face_alignment b) in
     rw (e, faces, h, bytes)
     (sym

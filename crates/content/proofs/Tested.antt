@@ -7,8 +7,15 @@ use Rattle.model.specs.declared.Relocation.{Relocation}
 use Rattle.model.specs.Graph.{Body, told_relocation, told_record}
 use Rattle.graph.proofs.Places.{drop_nth, nth_none}
 use Rattle.unfolding.specs.Depth.{same_list}
-use Rattle.content.specs.Core.{told_count, both_told}
+use Rattle.content.specs.Core.{told_count}
 use Rattle.content.specs.Aims.{relocations_in}
+
+-- two answers pass a test, or both are none
+abbrev pub both_told : {X : Type 0} → (X → X → Bool) → Option X → Option X → Bool
+both_told test None None = true
+both_told test None (Some y) = false
+both_told test (Some x) None = false
+both_told test (Some x) (Some y) = test x y
 
 module _ {X : Type 0} (test : X → X → Bool) where
   same_lengths : (xs ys : List X) → same_list test xs ys ≡ true → length xs ≡ length ys
@@ -68,6 +75,13 @@ module _ (test : Relocation → Relocation → Bool) (o p : Option Body) where
   pub test_counts : (told_count (told_record o) ≡ told_count (told_record p) → ⊥) → false ≡ same_list test (relocations_in o) (relocations_in p)
   test_counts ne =
       unlike_lengths test (relocations_in o) (relocations_in p) (λ e. ne (count_length o ∙ (e ∙ sym (count_length p))))
+
+  pub told_both :
+      (j : ℕ) (r q : Relocation) →
+      told_relocation o j ≡ Some r →
+      told_relocation p j ≡ Some q →
+      both_told test (told_relocation o j) (told_relocation p j) ≡ test r q
+  told_both j r q e f = rw (e, f)
 
   pub test_next :
       (j : ℕ) →

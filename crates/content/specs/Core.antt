@@ -1,5 +1,5 @@
 -- All that a section tells but for the sections that its relocations point at.
-use Rattle.std.specs.Prelude.{ℕ, ◌+◌, Bool, true, false, ◌&&◌, List, [], ◌∷◌, map, Some, None, Option, ◌==◌, unsigned_abs}
+use Rattle.std.specs.Prelude.{◌≡◌, ℕ, ◌+◌, Bool, true, false, ◌&&◌, List, [], ◌∷◌, map, Some, None, Option, ◌==◌, unsigned_abs}
 use Rattle.model.specs.declared.Target.{Target}
 use Rattle.model.specs.declared.Target.TheVariants.{Section, Outside}
 use Rattle.model.specs.declared.Relocation.{Relocation}
@@ -8,15 +8,10 @@ use Rattle.model.specs.Graph.{Body}
 use Rattle.graph.specs.Bytes.{mixed, digest}
 use Rattle.unfolding.specs.Depth.{Told, outside, section, Arm, arm_map, same_integer, same_list}
 use Rattle.unfolding.specs.Telling.{arm}
-use Rattle.unfolding.specs.Groups.{may_fold}
 use Rattle.unfolding.specs.Sections.{Face, face_of, same_face}
 use Rattle.content.specs.Aims.{relocations_in}
 
 -- what a record tells, 0 of an absent section
-
-abbrev pub told_fold : Option Record → Bool
-told_fold None = false
-told_fold (Some r) = may_fold (Some r.setting)
 
 abbrev pub told_count : Option Record → ℕ
 told_count None = 0
@@ -25,9 +20,6 @@ told_count (Some r) = r.relocations
 abbrev pub told_face : Option Record → ℕ × ℕ
 told_face None = (0, 0)
 told_face (Some r) = (r.flags, r.alignment)
-
-abbrev pub same_told_face : Option Record → Option Record → Bool
-same_told_face a b = (told_face a).0 == (told_face b).0 && (told_face a).1 == (told_face b).1
 
 -- every section is told alike
 abbrev pub unnamed : ℕ → ℕ
@@ -49,12 +41,9 @@ same_bare r q =
     (r.offset == q.offset) &&
     (r.kind == q.kind && (same_integer r.displacement q.displacement && same_outside r.target q.target))
 
--- two answers pass a test, or both are none
-abbrev pub both_told : {X : Type 0} → (X → X → Bool) → Option X → Option X → Bool
-both_told test None None = true
-both_told test None (Some y) = false
-both_told test (Some x) None = false
-both_told test (Some x) (Some y) = test x y
+-- whatever is given for two values is what the test gives
+abbrev pub Computes : {X : Type 0} → (X → X → Bool → Type 0) → (X → X → Bool) → Type 0
+Computes {X} gives test = (x y : X) (b : Bool) → gives x y b → b ≡ test x y
 
 pub record Core : Type 0 where
   pub face : Face

@@ -3,11 +3,12 @@
 
 #![tactic(auto)]
 
-ghost use Rattle.std.specs.Prelude.{◌≡◌};
-ghost use Rattle.model.specs.Graph.{section_of};
+ghost use Rattle.std.specs.Prelude.{◌≡◌, Bool};
+ghost use Rattle.model.specs.declared.Relocation.{Relocation};
+ghost use Rattle.model.specs.Graph.{record_of, section_of};
 ghost use Rattle.unfolding.specs.Depth.{same_list};
 ghost use Rattle.unfolding.specs.Groups.{foldable};
-ghost use Rattle.content.specs.Core.{told_fold, told_count, told_face, same_told_face, same_outside, same_bare, both_told, same_core, core_of, name_of, mixed_arm, bare, digest_core};
+ghost use Rattle.content.specs.Core.{told_count, told_face, Computes, same_bare, same_core, core_of, mixed_arm, bare, digest_core};
 ghost use Rattle.content.specs.Aims.{relocations_in, class_in, same_aim_at, same_aim};
 
 use graph::{SectionGraph, mix};
@@ -15,104 +16,80 @@ use model::{Record, Relocation, Setting, Target};
 
 // Whether section `s` is present and foldable.
 pub fn may_fold<G: SectionGraph>(graph: &G, s: u16) -> bool
-    requires { G.SectionGraph.sound graph.now }
     ensures { result ≡ foldable (G.SectionGraph.graph graph.now) s }
 {
-    fold_told(graph.record_of(s))
-}
-
-fn fold_told(told: Option<Record>) -> bool
-    ensures { result ≡ told_fold told }
-{
-    match told {
-        Some(x) => match x.setting {
-            Setting::Foldable => true,
-            Setting::Pinned => false,
-        },
-        None => false,
-    }
+    graph
+        .record_of(s)
+        .is_some_and(|x| x.setting == Setting::Foldable)
 }
 
 // How many relocations a record tells, 0 of an absent section.
-fn count_told(told: Option<Record>) -> u16
+fn count_of(told: Option<Record>) -> u16
     ensures { result ≡ told_count told }
 {
-    match told {
-        Some(x) => x.relocations,
-        None => 0,
-    }
+    told.map_or(0, |x| x.relocations)
 }
 
 // Flags and alignment as a record tells them, 0 of an absent section.
-fn face_told(told: Option<Record>) -> (u32, u32)
+fn face_of(told: Option<Record>) -> (u32, u32)
     ensures { result ≡ told_face told }
 {
-    match told {
-        Some(x) => (x.flags, x.alignment),
-        None => (0, 0),
-    }
+    told.map_or((0, 0), |x| (x.flags, x.alignment))
 }
 
-fn same_face(a: Option<Record>, b: Option<Record>) -> bool
-    ensures { result ≡ same_told_face a b }
-{
-    let x = face_told(a);
-    let y = face_told(b);
-    x.0 == y.0 && x.1 == y.1
+// A relocation but for the section that it points at.
+#[derive(Clone, Copy, PartialEq, Eq, Debug)]
+struct Bare {
+    offset: u16,
+    kind: u32,
+    displacement: i64,
+    outside: Option<u16>,
 }
 
-// Whether two targets are the same but for the numbers of sections.
-fn same_kind(a: Target, b: Target) -> bool
-    ensures { result ≡ same_outside a b }
-{
-    match a {
-        Target::Section(_) => match b {
-            Target::Section(_) => true,
-            Target::Outside(_) => false,
-        },
-        Target::Outside(x) => match b {
-            Target::Section(_) => false,
-            Target::Outside(y) => x == y,
-        },
+impl From<Relocation> for Bare {
+    ghost use Rattle.content.specs.Bare.{bare_of};
+
+    ghost from_gives = { λ r b. b ≡ bare_of r };
+
+    fn from(r: Relocation) -> Bare {
+        Bare {
+            offset: r.offset,
+            kind: r.kind,
+            displacement: r.displacement,
+            outside: match r.target {
+                Target::Section(_) => None,
+                Target::Outside(e) => Some(e),
+            },
+        }
     }
 }
 
 // Whether two relocations are the same but for the sections that they point at.
-fn same_link(a: Relocation, b: Relocation) -> bool
-    ensures { result ≡ same_bare a b }
+fn same_link(r: Relocation, q: Relocation) -> bool
+    ensures { result ≡ same_bare r q }
 {
-    a.offset == b.offset
-        && a.kind == b.kind
-        && a.displacement == b.displacement
-        && same_kind(a.target, b.target)
+    Bare::from(r) == Bare::from(q)
 }
 
-fn same_link_told(a: Option<Relocation>, b: Option<Relocation>) -> bool
-    ensures { result ≡ both_told same_bare a b }
+// Whether sections `s` and `t` have as many relocations, and each two of them at one place are alike.
+fn all_alike<G: SectionGraph, F: Fn(Relocation, Relocation) -> bool>(
+    graph: &G,
+    s: u16,
+    t: u16,
+    alike: F,
+) -> bool
+    requires { F.IsAlwaysCallable alike }
+    ensures { (test : Relocation → Relocation → Bool) → Computes (F.post alike) test → result ≡ same_list test (relocations_in (section_of (G.SectionGraph.graph graph.now) s)) (relocations_in (section_of (G.SectionGraph.graph graph.now) t)) }
 {
-    match a {
-        Some(x) => match b {
-            Some(y) => same_link(x, y),
-            None => false,
-        },
-        None => match b {
-            Some(_) => false,
-            None => true,
-        },
-    }
-}
-
-// Whether the relocations of two sections are the same but for the sections that they point at.
-fn same_links<G: SectionGraph>(graph: &G, s: u16, t: u16) -> bool
-    requires { G.SectionGraph.sound graph.now }
-    ensures { result ≡ same_list same_bare (relocations_in (section_of (G.SectionGraph.graph graph.now) s)) (relocations_in (section_of (G.SectionGraph.graph graph.now) t)) }
-{
-    let links = count_told(graph.record_of(s));
-    if links != count_told(graph.record_of(t)) {
+    let count = count_of(graph.record_of(s));
+    if count != count_of(graph.record_of(t)) {
         return false;
     }
-    for j in 0..links {
-        if !same_link_told(graph.relocation(s, j), graph.relocation(t, j)) {
+    for j in 0..count {
+        let (Some(r), Some(q)) = (graph.relocation(s, j), graph.relocation(t, j)) else {
+            return false;
+        };
+        if !alike(r, q) {
             return false;
         }
     }
@@ -122,100 +99,58 @@ fn same_links<G: SectionGraph>(graph: &G, s: u16, t: u16) -> bool
 // Whether sections `s` and `t` tell the same but for the sections that their relocations point at: flags, alignment, bytes, and of
 // each relocation offset, type, displacement and outside name.
 pub fn same_content<G: SectionGraph>(graph: &G, s: u16, t: u16) -> bool
-    requires { G.SectionGraph.sound graph.now }
     ensures { result ≡ same_core (section_of (G.SectionGraph.graph graph.now) s) (section_of (G.SectionGraph.graph graph.now) t) }
 {
-    if !same_face(graph.record_of(s), graph.record_of(t)) {
-        return false;
-    }
-    if !same_links(graph, s, t) {
-        return false;
-    }
-    graph.same_bytes(s, t)
+    face_of(graph.record_of(s)) == face_of(graph.record_of(t))
+        && all_alike(graph, s, t, same_link)
+        && graph.same_bytes(s, t)
 }
 
 // The class of section `t`, 0 past the last.
 fn class_of(class: &[u16; 1024], t: u16) -> u16
     ensures { result ≡ class_in class.now t }
 {
-    if t < 1024 { class[t as usize] } else { 0 }
+    class.get(usize::from(t)).copied().unwrap_or(0)
 }
 
 // Whether two targets, if both are sections, are of one class.
 fn same_class(class: &[u16; 1024], a: Target, b: Target) -> bool
     ensures { result ≡ same_aim_at class.now a b }
 {
-    match a {
-        Target::Section(x) => match b {
-            Target::Section(y) => class_of(class, x) == class_of(class, y),
-            Target::Outside(_) => true,
-        },
-        Target::Outside(_) => true,
-    }
-}
-
-fn same_class_told(class: &[u16; 1024], a: Option<Relocation>, b: Option<Relocation>) -> bool
-    ensures { result ≡ both_told (same_aim class.now) a b }
-{
-    match a {
-        Some(x) => match b {
-            Some(y) => same_class(class, x.target, y.target),
-            None => false,
-        },
-        None => match b {
-            Some(_) => false,
-            None => true,
-        },
+    match (a, b) {
+        (Target::Section(x), Target::Section(y)) => class_of(class, x) == class_of(class, y),
+        _ => true,
     }
 }
 
 // Whether sections `s` and `t` have as many relocations, and these point at sections of the same classes one by one.
 pub fn same_aims<G: SectionGraph>(graph: &G, class: &[u16; 1024], s: u16, t: u16) -> bool
-    requires { G.SectionGraph.sound graph.now }
     ensures { result ≡ same_list (same_aim class.now) (relocations_in (section_of (G.SectionGraph.graph graph.now) s)) (relocations_in (section_of (G.SectionGraph.graph graph.now) t)) }
 {
-    let count = count_told(graph.record_of(s));
-    if count != count_told(graph.record_of(t)) {
-        return false;
-    }
-    for j in 0..count {
-        if !same_class_told(class, graph.relocation(s, j), graph.relocation(t, j)) {
-            return false;
-        }
-    }
-    true
-}
-
-// The number of an outside name above 0, and 0 for a section.
-fn name_told(target: Target) -> u64
-    ensures { result ≡ name_of target }
-{
-    match target {
-        Target::Section(_) => 0,
-        Target::Outside(e) => e as u64 + 1,
-    }
+    all_alike(graph, s, t, |r, q| same_class(class, r.target, q.target))
 }
 
 // A digest with a relocation mixed in, all but the section that it points at.
 fn mix_link(digest: u64, r: Relocation) -> u64
     ensures { result ≡ mixed_arm digest (bare r) }
 {
-    let placed = mix(mix(digest, r.offset as u64), r.kind as u64);
-    mix(
-        mix(placed, r.displacement.unsigned_abs()),
-        name_told(r.target),
-    )
+    let link = Bare::from(r);
+    let placed = mix(mix(digest, u64::from(link.offset)), u64::from(link.kind));
+    let name = link.outside.map_or(0, |e| u64::from(e) + 1);
+    mix(mix(placed, link.displacement.unsigned_abs()), name)
 }
 
 // A digest of what `same_content` compares: where it differs, the contents differ. Where it is the same, nothing is said.
 pub fn content_digest<G: SectionGraph>(graph: &G, s: u16) -> u64
-    requires { G.SectionGraph.sound graph.now }
     ensures { result ≡ digest_core (core_of (section_of (G.SectionGraph.graph graph.now) s)) }
 {
     let told = graph.record_of(s);
-    let face = face_told(told);
-    let mut digest = mix(mix(graph.byte_digest(s), face.0 as u64), face.1 as u64);
-    for j in 0..count_told(told) {
+    let (flags, alignment) = face_of(told);
+    let mut digest = mix(
+        mix(graph.byte_digest(s), u64::from(flags)),
+        u64::from(alignment),
+    );
+    for j in 0..count_of(told) {
         if let Some(r) = graph.relocation(s, j) {
             digest = mix_link(digest, r);
         }

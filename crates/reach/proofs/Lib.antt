@@ -1,1 +1,1 @@
-mod Entering
+mod Walking

@@ -2,60 +2,54 @@
 
 #![tactic(auto)]
 
-ghost use Rattle.std.specs.Prelude.{◌≡◌, ◌<◌};
+ghost use Rattle.std.specs.Prelude.{◌≡◌, ℕ, ◌<◌, ◌≤◌, true, false, length, replicate, slice_set, All};
 ghost use Rattle.model.specs.Graph.{root_of};
 ghost use Rattle.steps.specs.Below.{table};
-ghost use Rattle.unfolding.specs.Reach.{Reached, reached};
-ghost use Rattle.reach.specs.Work.{aim_of, told_count, fresh, entered, aims, Sound, Grown, Taken, Closed};
+ghost use Rattle.unfolding.specs.Reach.{reached, marked};
+ghost use Rattle.reach.specs.Walk.{aim_of, told_count, aims, mark_count, IsFresh, Grown, Taken};
 
+use arrayvec::ArrayVec;
 use graph::SectionGraph;
 use model::{Record, Relocation, Target};
 
-mod work;
+// The sections entered so far: a mark for each number, and those of them whose relocations are still to be followed.
+#[derive(Drop)]
+struct Walk<'a, G: SectionGraph> {
+    graph: &'a G,
+    marks: [bool; 1024],
+    pending: ArrayVec<u16, 1024>,
 
-use work::Work;
+    // every marked section is reached
+    ghost inside: { (s : ℕ) → marked marks s ≡ true → reached (G.SectionGraph.graph graph.now) s ≡ true },
+
+    // every pending section is marked
+    ghost entered: { All (λ s. marked marks s ≡ true) pending.items },
+
+    // no more are pending than are marked
+    ghost room: { length pending.items ≤ mark_count marks },
+}
 
 // For each number whether the section is present and some chain of relocations from a root reaches it.
 //
 // Each section is entered once, and each relocation asked once.
 pub fn reach<G: SectionGraph>(graph: &G) -> [bool; 1024]
-    requires { G.SectionGraph.sound graph.now }
     ensures { result ≡ table (reached (G.SectionGraph.graph graph.now)) 1024 }
 {
-    marks(graph)
-}
-
-fn marks<G: SectionGraph>(graph: &G) -> [bool; 1024]
-    requires { G.SectionGraph.sound graph.now }
-    ensures { result ≡ table (reached (G.SectionGraph.graph graph.now)) 1024 }
-{
-    let mut work = empty();
-    work.enter_roots(graph);
-    work.follow_all(graph);
-    work.marks
-}
-
-// Nothing is entered.
-fn empty() -> Work
-    ensures { result ≡ fresh }
-{
-    Work {
-        marks: [false; 1024],
-        list: [0; 1024],
-        len: 0,
+    let mut walk = Walk::new(graph);
+    walk.enter_roots();
+    while let Some(s) = walk.pending.pop() {
+        walk.follow(s);
     }
+    walk.marks
 }
 
 // The section that a relocation points at.
 fn aim(told: Option<Relocation>) -> Option<u16>
     ensures { result ≡ aim_of told }
 {
-    match told {
-        Some(r) => match r.target {
-            Target::Section(t) => Some(t),
-            Target::Outside(_) => None,
-        },
-        None => None,
+    match told?.target {
+        Target::Section(t) => Some(t),
+        Target::Outside(_) => None,
     }
 }
 
@@ -63,70 +57,75 @@ fn aim(told: Option<Relocation>) -> Option<u16>
 fn count_of(told: Option<Record>) -> u16
     ensures { result ≡ told_count told }
 {
-    match told {
-        Some(x) => x.relocations,
-        None => 0,
-    }
+    told.map_or(0, |x| x.relocations)
 }
 
-impl Work {
-    // Marks and lists section `s`, unless it is marked already: so each section is listed once, and there is room, since
-    // the list is as long as there are marks.
-    fn enter<G: SectionGraph>(&mut self, graph: &G, s: u16)
-        requires sound { Sound (G.SectionGraph.graph graph.now) self.old }
-        requires small { s < 1024 }
-        ensures { self.new ≡ entered self.old s }
+// No section is marked.
+fn unmarked() -> [bool; 1024]
+    ensures { result ≡ replicate 1024 false }
+{
+    [false; 1024]
+}
+
+// Marks section `s`.
+fn mark(marks: &mut [bool; 1024], s: u16)
+    requires { s < 1024 }
+    ensures { marks.new ≡ slice_set marks.old s true }
+{
+    marks[s as usize] = true;
+}
+
+impl<'a, G: SectionGraph> Walk<'a, G> {
+    // Nothing is entered.
+    fn new(graph: &'a G) -> Self
+        ensures graph { result.graph.now ≡ graph.now }
+        ensures fresh { IsFresh result.marks result.pending.items }
+    {
+        Walk {
+            graph,
+            marks: unmarked(),
+            pending: ArrayVec::new(),
+        }
+    }
+
+    // Marks section `s` and puts it on the list, unless it is marked already: so each section is listed once, and there is
+    // room, since no more are listed than are marked.
+    fn enter(&mut self, s: u16)
+        requires { reached (G.SectionGraph.graph self.old.graph.now) s ≡ true }
+        ensures graph { self.new.graph ≡ self.old.graph }
+        ensures grown { Grown self.old.marks self.old.pending.items self.new.marks self.new.pending.items }
+        ensures here { marked self.new.marks s ≡ true }
     {
         if !self.marks[s as usize] {
-            let at = self.len;
-            self.marks[s as usize] = true;
-            self.list[at as usize] = s;
-            self.len = at + 1;
+            mark(&mut self.marks, s);
+            self.pending.push(s);
         }
     }
 
     // Enters every root.
-    fn enter_roots<G: SectionGraph>(&mut self, graph: &G)
-        requires graph { G.SectionGraph.sound graph.now }
-        requires sound { Sound (G.SectionGraph.graph graph.now) self.old }
-        ensures sound { Sound (G.SectionGraph.graph graph.now) self.new }
-        ensures taken { Taken (root_of (G.SectionGraph.graph graph.now)) self.new 4096 }
+    fn enter_roots(&mut self)
+        ensures graph { self.new.graph ≡ self.old.graph }
+        ensures grown { Grown self.old.marks self.old.pending.items self.new.marks self.new.pending.items }
+        ensures taken { Taken (root_of (G.SectionGraph.graph self.old.graph.now)) self.new.marks }
     {
-        for j in 0..graph.root_count() {
-            if let Some(s) = graph.root(j) {
-                self.enter(graph, s);
+        for j in 0..self.graph.root_count() {
+            if let Some(s) = self.graph.root(j) {
+                self.enter(s);
             }
         }
     }
 
     // Enters every section that a relocation of section `s` points at.
-    fn follow<G: SectionGraph>(&mut self, graph: &G, s: u16)
-        requires graph { G.SectionGraph.sound graph.now }
-        requires sound { Sound (G.SectionGraph.graph graph.now) self.old }
-        requires reached { Reached (G.SectionGraph.graph graph.now) s }
-        ensures sound { Sound (G.SectionGraph.graph graph.now) self.new }
-        ensures grown { Grown self.old self.new }
-        ensures taken { Taken (aims (G.SectionGraph.graph graph.now) s) self.new 65536 }
+    fn follow(&mut self, s: u16)
+        requires { reached (G.SectionGraph.graph self.old.graph.now) s ≡ true }
+        ensures graph { self.new.graph ≡ self.old.graph }
+        ensures grown { Grown self.old.marks self.old.pending.items self.new.marks self.new.pending.items }
+        ensures taken { Taken (aims (G.SectionGraph.graph self.old.graph.now) s) self.new.marks }
     {
-        for j in 0..count_of(graph.record_of(s)) {
-            if let Some(t) = aim(graph.relocation(s, j)) {
-                self.enter(graph, t);
+        for j in 0..count_of(self.graph.record_of(s)) {
+            if let Some(t) = aim(self.graph.relocation(s, j)) {
+                self.enter(t);
             }
-        }
-    }
-
-    // Follows each section of the list, which grows meanwhile.
-    fn follow_all<G: SectionGraph>(&mut self, graph: &G)
-        requires graph { G.SectionGraph.sound graph.now }
-        requires sound { Sound (G.SectionGraph.graph graph.now) self.old }
-        requires taken { Taken (root_of (G.SectionGraph.graph graph.now)) self.old 4096 }
-        ensures { Closed (G.SectionGraph.graph graph.now) self.new }
-    {
-        let mut next = 0;
-        while next < self.len {
-            let s = self.list[next as usize];
-            self.follow(graph, s);
-            next += 1;
         }
     }
 }

@@ -22,6 +22,6 @@ loop-j-preserved g c =
 pub returns : goal.returns
 returns g c =
     let o = section_of (g.G.SectionGraph.graph c.args.graph.now) c.args.s in
-    let count = c.count_told-j-end.ensures ∙ ap told_count c.record_of-told.ensures in
+    let count = c.count_of-j-end.ensures ∙ ap told_count c.record_of-told.ensures in
     let past : told_count (told_record o) ≤ c.loop-j.j = omega arith in
     sym (digest_end o c.loop-j.digest c.loop-j.j past) ∙ c.loop-j.invariant
