@@ -1,2 +1,4 @@
-pub mod Read
+pub mod Within
 pub mod Onward
+pub mod Bytes
+pub mod Digits

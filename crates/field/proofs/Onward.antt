@@ -5,9 +5,8 @@ use Rattle.std.proofs.lemmas.Nat.{mul-le}
 use Rattle.std.proofs.lemmas.List.{drop_more}
 use Rattle.fault.specs.declared.Fault.{Fault}
 use Rattle.field.specs.declared.Number.{Number}
-use Rattle.field.specs.declared.Gathered.{Gathered}
-use Rattle.field.specs.declared.Gathered.TheVariants.{More, Whole}
-use Rattle.field.specs.Uleb.{behind, decoded, misshapen, limited, number_at, with_digit, gathered_from, gathered}
+use Rattle.std.specs.declared.ops.ControlFlow.TheVariants.{Continue, Break}
+use Rattle.field.specs.Uleb.{behind, decoded, misshapen, limited, number_at, with_digit, Gathered, gathered_from, gathered}
 
 -- k digits with the value v in front of the number that the later bytes tell
 abbrev pub prefixed : ℕ → ℕ → Option Number → Option Number
@@ -21,8 +20,8 @@ pending k v p xs = limited (prefixed k v (decoded xs)) p
 -- what one byte more tells of the number
 abbrev pub Steps : ℕ → ℕ → ℕ → ℕ → List ℕ → Result Gathered Fault → Type 0
 Steps k v x p xs (Err f) = pending k v p (x ∷ xs) ≡ Err f
-Steps k v x p xs (Ok (Whole m)) = (pending k v p (x ∷ xs) ≡ Ok m) × (m.taken ≡ suc k)
-Steps k v x p xs (Ok (More m)) =
+Steps k v x p xs (Ok (Break m)) = (pending k v p (x ∷ xs) ≡ Ok m) × (m.taken ≡ suc k)
+Steps k v x p xs (Ok (Continue m)) =
     (m.taken ≡ suc k) × (suc k ≤ 4) × (m.value < 128 ^ suc k) × (pending k v p (x ∷ xs) ≡ pending (suc k) m.value p xs)
 
 fits : (k v p : ℕ) → k ≤ 5 → v < 2 ^ 32 → limited (Some (record { value = v; taken = k })) p ≡ Ok (record { value = v; taken = k })
@@ -55,7 +54,7 @@ low : (k w v x p : ℕ) (xs : List ℕ) → 128 ^ k ≡ w → 128 ^ suc k ≡ 12
     → Steps k v x p xs (gathered_from k v x p)
 low k w v x p xs e f h l d b = rw (and_left (leb 4 k) (leb 16 x) (lt-leb 4 k h)) (by_digit (cases_lt x 128))
   where
-    by_digit : (x < 128) ⊎ (128 ≤ x) → Steps k v x p xs (cond (ltb x 128) (Ok (Whole (with_digit k v x))) (Ok (More (with_digit k v (x - 128)))))
+    by_digit : (x < 128) ⊎ (128 ≤ x) → Steps k v x p xs (cond (ltb x 128) (Ok (Break (with_digit k v x))) (Ok (Continue (with_digit k v (x - 128)))))
     by_digit (inl lt) =
         let small : x * w ≤ 127 * 2097152 = mul-le x w 127 2097152 (omega arith) l
         in rw (lt-ltb x 128 lt, digit_is k w v x e (omega arith)) (rw (lt-ltb x 128 lt) (last_is k w v x p e (omega arith) (omega arith)), refl)
@@ -121,8 +120,8 @@ stepped n x p xs r h l b e =
 -- one byte more of a list, from the number so far to what it makes of the number that the list begins with
 abbrev pub Turned : ℕ → List ℕ → ℕ → Result Gathered Fault → Type 0
 Turned p bytes i (Err f) = Err f ≡ number_at bytes p
-Turned p bytes i (Ok (Whole m)) = Ok m ≡ number_at bytes p
-Turned p bytes i (Ok (More m)) =
+Turned p bytes i (Ok (Break m)) = Ok m ≡ number_at bytes p
+Turned p bytes i (Ok (Continue m)) =
     (m.taken ≤ 4) × (m.value < 128 ^ m.taken) × (pending m.taken m.value p (drop (i + 1) bytes) ≡ number_at bytes p)
 
 pub turn : (bytes : List ℕ) (i p : ℕ) (n : Number) (r : Result Gathered Fault) → i < length bytes → get_or bytes i 0 < 256
@@ -134,5 +133,5 @@ turn bytes i p n r lt b inv e =
     go : (r : Result Gathered Fault) → pending n.taken n.value p (get_or bytes i 0 ∷ drop (i + 1) bytes) ≡ number_at bytes p
         → Steps n.taken n.value (get_or bytes i 0) p (drop (i + 1) bytes) r → Turned p bytes i r
     go (Err f) q s = sym s ∙ q
-    go (Ok (Whole m)) q s = sym s.0 ∙ q
-    go (Ok (More m)) q s = rw s.0 (s.1, s.2, sym s.3 ∙ q)
+    go (Ok (Break m)) q s = sym s.0 ∙ q
+    go (Ok (Continue m)) q s = rw s.0 (s.1, s.2, sym s.3 ∙ q)

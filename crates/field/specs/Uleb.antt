@@ -4,8 +4,8 @@ use Rattle.fault.specs.declared.Fault.{Fault}
 use Rattle.fault.specs.declared.Kind.TheVariants.{Misshapen}
 use Rattle.fault.specs.declared.Layer.TheVariants.{Field}
 use Rattle.field.specs.declared.Number.{Number}
-use Rattle.field.specs.declared.Gathered.{Gathered}
-use Rattle.field.specs.declared.Gathered.TheVariants.{More, Whole}
+use Rattle.std.specs.declared.ops.ControlFlow.{ControlFlow}
+use Rattle.std.specs.declared.ops.ControlFlow.TheVariants.{Continue, Break}
 
 -- a digit in front of the number that the later bytes tell
 abbrev pub behind : ℕ → Option Number → Option Number
@@ -31,7 +31,9 @@ limited (Some n) p = cond (nat_le n.taken 5 && nat_lt n.value (2 ^ 32)) (Ok n) (
 abbrev pub number_at : List ℕ → ℕ → Result Number Fault
 number_at xs p = limited (decoded xs) p
 
--- a number that is read byte by byte: what one byte more makes of it
+-- a number that is read byte by byte: what one byte more makes of it, a number that goes on or one that it ends
+abbrev pub Gathered : Type 0
+Gathered = ControlFlow Number Number
 
 -- the digit d is put behind the k that were read
 abbrev pub with_digit : ℕ → ℕ → ℕ → Number
@@ -42,7 +44,7 @@ gathered_from k v x p =
     cond
     (nat_le 4 k && nat_le 16 x)
     (Err (misshapen p))
-    (cond (nat_lt x 128) (Ok (Whole (with_digit k v x))) (Ok (More (with_digit k v (x - 128)))))
+    (cond (nat_lt x 128) (Ok (Break (with_digit k v x))) (Ok (Continue (with_digit k v (x - 128)))))
 
 -- the fifth byte ends the number and is below 16
 abbrev pub gathered : Number → ℕ → ℕ → Result Gathered Fault

@@ -3,7 +3,7 @@ use Rattle.std.proofs.Common.{◌≡◌, ℕ, ◌+◌, ◌*◌, List, length, Ok
 use Rattle.fault.specs.declared.Fault.{Fault}
 use Rattle.checklist.specs.Checks.{first_fault}
 use Rattle.field.specs.Fields.{within}
-use Rattle.field.proofs.Read.{read_is}
+use Rattle.field.proofs.Within.{read_is}
 use Rattle.elf.specs.declared.Header.{Header}
 use Rattle.elf.specs.Layout.{header_at, place, section}
 use Rattle.rules.specs.declared.Pass.{Pass}

@@ -1,6 +1,6 @@
 use Rattle.std.proofs.Common.{ℕ, ◌+◌, ◌*◌, sym, ap, ◌∙◌}
 use Rattle.std.proofs.lemmas.Result.{err_from_is_err_and}
-use Rattle.field.proofs.Read.{read_is}
+use Rattle.field.proofs.Within.{read_is}
 use Rattle.checklist.specs.Checks.{first_fault, each}
 use Rattle.checklist.proofs.Checks.{ok_none, err_some, answer_some, each_more, each_found}
 use Rattle.elf.specs.declared.Symbol.{Symbol}

@@ -2,7 +2,7 @@ use Rattle.std.proofs.lemmas.Result.{err_from_is_err_and}
 use Rattle.checklist.specs.Checks.{first_fault}
 use Rattle.checklist.proofs.Checks.{ok_none, err_some}
 use Rattle.field.specs.Fields.{long}
-use Rattle.field.proofs.Read.{read_is}
+use Rattle.field.proofs.Within.{read_is}
 use Rattle.elf.specs.Layout.{sections}
 use Rattle.rules.specs.Rules.{head_rule}
 use Rattle.rules.specs.Verdict.{from_extents}
