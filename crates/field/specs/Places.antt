@@ -1,5 +1,5 @@
 -- A field further on is the field that the rest of the bytes begins with: the law of each impl of `Field`.
-use Rattle.std.specs.Prelude.{◌≡◌, ℕ, ◌+◌, ◌*◌, List, drop, slice_index}
+use Rattle.std.specs.Prelude.{◌≡◌, ℕ, ◌+◌, List, drop}
 use Rattle.std.specs.Int.{cast_signed, w64}
 use Rattle.std.proofs.Common.{ap, ◌∙◌, add_assoc, add-zero}
 use Rattle.std.proofs.lemmas.List.{get_or-drop}

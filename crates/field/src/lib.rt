@@ -2,7 +2,7 @@
 
 #![tactic(auto)]
 
-ghost use Rattle.std.specs.Prelude.{◌≡◌, ℕ, ◌+◌, ◌≤◌, List, length, drop, if◌then◌else◌, Some, None, nat_le};
+ghost use Rattle.std.specs.Prelude.{◌≡◌, ℕ, ◌+◌, ◌*◌, ◌^◌, ◌<◌, ◌≤◌, List, length, drop, if◌then◌else◌, Some, None, nat_le};
 ghost use Rattle.field.specs.Fields.{half, word, long, signed, within};
 ghost use Rattle.field.specs.Places.{half-drop, word-drop, long-drop, signed-drop};
 ghost use Rattle.field.specs.Uleb.{gathered, none_yet, number_at, misshapen as misshapen_at};
@@ -104,6 +104,16 @@ pub fn none_yet() -> Number
     Number { value: 0, taken: 0 }
 }
 
+// What the digit `d` of a ULEB128 number counts, with `before` digits before it.
+fn digit(d: u8, before: u8) -> u32
+    requires few { before ≤ 4 }
+    requires small { d < 128 }
+    requires last { before ≡ 4 → d < 16 }
+    ensures { result ≡ d * 128 ^ before }
+{
+    u32::from(d) << (7 * before)
+}
+
 // The number `n` so far, which began at the place `first`, with the byte `x` more: it goes on, or the byte ends it.
 pub fn gather(n: Number, x: u8, first: u64) -> Result<ControlFlow<Number, Number>, Fault>
     ensures { result ≡ gathered n x first }
@@ -112,9 +122,8 @@ pub fn gather(n: Number, x: u8, first: u64) -> Result<ControlFlow<Number, Number
     if before == 4 && x >= 16 {
         return Err(misshapen(first));
     }
-    let digit = u32::from(x % 128) << (7 * before);
     let more = Number {
-        value: n.value.wrapping_add(digit),
+        value: n.value.wrapping_add(digit(x % 128, before)),
         taken: before + 1,
     };
     if x < 128 {
