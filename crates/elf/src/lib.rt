@@ -4,10 +4,10 @@
 
 ghost use Rattle.std.specs.Prelude.{◌≡◌};
 ghost use Rattle.field.specs.Fields.{within};
-ghost use Rattle.elf.specs.Layout.{header_at, symbol_at, entry_at, place, section as section_in, has as has_flag, apart as apart_kind, present as present_header, outside as outside_index, aligned as aligned_by, root as root_header, plain as plain_header};
+ghost use Rattle.elf.specs.Layout.{header_at, symbol_at, entry_at, place, section as section_in, has, apart, present, outside, aligned as aligned_by, root, plain};
 
 use fault::Fault;
-use field::{half, long, signed, word};
+use field::read;
 
 // What is read of a section header; `stride` is the size of an entry, `kind` the type.
 #[derive(Clone, Copy, PartialEq, Eq, Debug)]
@@ -38,27 +38,68 @@ pub struct Entry {
     pub addend: i64,
 }
 
+impl Header {
+    // Whether a flag is set.
+    fn has(self, flag: u64) -> bool
+        ensures { result ≡ has self.flags flag }
+    {
+        self.flags & flag != 0
+    }
+
+    // Whether sections of this type are no part of the graph.
+    fn is_apart(self) -> bool
+        ensures { result ≡ apart self.kind }
+    {
+        matches!(self.kind, 0 | 2 | 3 | 4 | 9 | 17 | 18 | 0x6fff4c03)
+    }
+
+    // Whether the section is present in the graph.
+    pub fn is_present(self) -> bool
+        ensures { result ≡ present self }
+    {
+        self.has(2) && !self.is_apart()
+    }
+
+    // Whether the section is kept for what it is.
+    pub fn is_root(self) -> bool
+        ensures { result ≡ root self }
+    {
+        self.is_present() && (matches!(self.kind, 14 | 15 | 16) || self.has(0x200000))
+    }
+
+    // Whether the section may be folded if no symbol in it is listed.
+    pub fn is_plain(self) -> bool
+        ensures { result ≡ plain self }
+    {
+        self.kind == 1
+            && !self.is_root()
+            && !(self.has(0x1) || self.has(0x10) || self.has(0x80) || self.has(0x400))
+    }
+}
+
+impl Symbol {
+    // Whether the symbol is defined in no section.
+    pub fn is_outside(self) -> bool
+        ensures { result ≡ outside self.section }
+    {
+        matches!(self.section, 0 | 0xfff1 | 0xfff2)
+    }
+}
+
 // The section header at `p`.
 pub fn read_header(b: &[u8], p: u64) -> Result<Header, Fault>
     ensures { result ≡ within b.now p 64 (header_at b.now p) }
 {
-    let last = p.saturating_add(56);
-    let stride = long(b, last)?;
-    let kind = word(b, p + 4)?;
-    let flags = long(b, p + 8)?;
-    let offset = long(b, p + 24)?;
-    let size = long(b, p + 32)?;
-    let link = word(b, p + 40)?;
-    let info = word(b, p + 44)?;
-    let alignment = long(b, p + 48)?;
+    // the last field first, so that none of the places before it is out of range
+    let stride = read(b, p.saturating_add(56))?;
     Ok(Header {
-        kind,
-        flags,
-        offset,
-        size,
-        link,
-        info,
-        alignment,
+        kind: read(b, p + 4)?,
+        flags: read(b, p + 8)?,
+        offset: read(b, p + 24)?,
+        size: read(b, p + 32)?,
+        link: read(b, p + 40)?,
+        info: read(b, p + 44)?,
+        alignment: read(b, p + 48)?,
         stride,
     })
 }
@@ -67,24 +108,23 @@ pub fn read_header(b: &[u8], p: u64) -> Result<Header, Fault>
 pub fn read_symbol(b: &[u8], p: u64) -> Result<Symbol, Fault>
     ensures { result ≡ within b.now p 16 (symbol_at b.now p) }
 {
-    let value = long(b, p.saturating_add(8))?;
-    let section = half(b, p + 6)?;
-    Ok(Symbol { section, value })
+    let value = read(b, p.saturating_add(8))?;
+    Ok(Symbol {
+        section: read(b, p + 6)?,
+        value,
+    })
 }
 
 // The relocation entry at `p`.
 pub fn read_entry(b: &[u8], p: u64) -> Result<Entry, Fault>
     ensures { result ≡ within b.now p 24 (entry_at b.now p) }
 {
-    let addend = signed(b, p.saturating_add(16))?;
-    let offset = long(b, p)?;
-    let info = long(b, p + 8)?;
-    let kind = (info % 4294967296) as u32;
-    let symbol = (info / 4294967296) as u32;
+    let addend = read(b, p.saturating_add(16))?;
+    let info: u64 = read(b, p + 8)?;
     Ok(Entry {
-        offset,
-        kind,
-        symbol,
+        offset: read(b, p)?,
+        kind: (info % 4294967296) as u32,
+        symbol: (info / 4294967296) as u32,
         addend,
     })
 }
@@ -93,75 +133,14 @@ pub fn read_entry(b: &[u8], p: u64) -> Result<Entry, Fault>
 pub fn read_section(b: &[u8], i: u16) -> Result<Header, Fault>
     ensures { result ≡ within b.now (place b.now i) 64 (section_in b.now i) }
 {
-    let first = long(b, 40)?;
-    read_header(b, first.saturating_add(64 * i as u64))
-}
-
-// Whether a flag is set.
-fn has(flags: u64, flag: u64) -> bool
-    ensures { result ≡ has_flag flags flag }
-{
-    flags & flag != 0
-}
-
-// Whether sections of this type are no part of the graph.
-fn apart(kind: u32) -> bool
-    ensures { result ≡ apart_kind kind }
-{
-    kind == 0
-        || kind == 2
-        || kind == 3
-        || kind == 4
-        || kind == 9
-        || kind == 17
-        || kind == 18
-        || kind == 0x6fff4c03
-}
-
-// Whether the section is present in the graph.
-pub fn present(h: Header) -> bool
-    ensures { result ≡ present_header h }
-{
-    has(h.flags, 2) && !apart(h.kind)
-}
-
-// Whether a symbol with this section index is defined in no section.
-pub fn outside(s: u16) -> bool
-    ensures { result ≡ outside_index s }
-{
-    s == 0 || s == 0xfff1 || s == 0xfff2
+    let first: u64 = read(b, 40)?;
+    read_header(b, first.saturating_add(64 * u64::from(i)))
 }
 
 // Whether an alignment is allowed.
+#[tactic(auto, using(crate::proofs::Powers::power_is, crate::proofs::Powers::no_power))]
 pub fn aligned(a: u64) -> bool
     ensures { result ≡ aligned_by a }
 {
-    if a == 0 {
-        return true;
-    }
-    let mut power: u64 = 1;
-    for k in 0..17u8 {
-        if a == power {
-            return true;
-        }
-        power *= 2;
-    }
-    false
-}
-
-// Whether the section is kept for what it is.
-pub fn root(h: Header) -> bool
-    ensures { result ≡ root_header h }
-{
-    present(h) && (h.kind == 14 || h.kind == 15 || h.kind == 16 || has(h.flags, 0x200000))
-}
-
-// Whether the section may be folded if no symbol in it is listed.
-pub fn plain(h: Header) -> bool
-    ensures { result ≡ plain_header h }
-{
-    if h.kind != 1 || root(h) {
-        return false;
-    }
-    !(has(h.flags, 0x1) || has(h.flags, 0x10) || has(h.flags, 0x80) || has(h.flags, 0x400))
+    a == 0 || a <= 65536 && a.is_power_of_two()
 }
