@@ -1,6 +1,6 @@
 // A warning for objects whose address-significance list may be stale. strip, objcopy and ld -r copy that list and leave its
 // numbers as they were, but not its link to the symbol table. Whether the object is accepted does not hang on it.
-use field::{half, long, word};
+use field::read;
 use std::io;
 
 const SIGNIFICANT: u32 = 0x6fff4c03;
@@ -10,7 +10,7 @@ const SYMBOLS: u32 = 2;
 // A field at `place` of section header `i`; none where it runs past the end.
 fn header_word(file: &[u8], table: u64, i: u16, place: u64) -> Option<u32> {
     let from = table.checked_add(64 * u64::from(i))?.checked_add(place)?;
-    match word(file, from) {
+    match read(file, from) {
         Ok(found) => Some(found),
         Err(_) => None,
     }
@@ -18,7 +18,7 @@ fn header_word(file: &[u8], table: u64, i: u16, place: u64) -> Option<u32> {
 
 // Whether the list names another section than the symbol table.
 fn is_stale(file: &[u8]) -> bool {
-    let (Ok(table), Ok(count)) = (long(file, 40), half(file, 60)) else {
+    let (Ok(table), Ok(count)) = (read::<u64>(file, 40), read::<u16>(file, 60)) else {
         return false;
     };
     let mut symbols = None;
