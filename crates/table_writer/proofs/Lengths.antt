@@ -10,11 +10,11 @@ use Rattle.model.specs.Laws.{Valid}
 use Rattle.row.specs.Entry.{Entry, end, render, Ranged}
 use Rattle.row.specs.Told.{row_length}
 use Rattle.row.proofs.Rows.{render_length}
-use Rattle.layout.specs.Layout.{with_bytes, with_relocations, with_section, with_sections, with_roots, present_count, entries, text_of}
+use Rattle.layout.specs.Layout.{with_bytes, with_relocations, with_section, with_sections, with_roots, present_count, bytes_length, entries, text_of}
 use Rattle.layout.proofs.Only.{with_bytes_some}
 use Rattle.layout.proofs.Ranges.{ranged_entries}
 use Rattle.layout.proofs.Aims.{formed_from_valid}
-use Rattle.table_writer.specs.Texts.{bytes_length, record_length}
+use Rattle.table_writer.specs.Texts.{record_length}
 
 -- how long the rows of the present sections are
 unfoldable pub sections_length : List (Option Body) → ℕ
@@ -32,24 +32,6 @@ joined_length [] h = refl
 joined_length (e ∷ es) h =
     omega (arith, length-append (render e) (flat_map render es), render_length e h.0, joined_length es h.1)
 
-length_full : (n : ℕ) → 16 ≤ n → 66 + bytes_length (n - 16) ≡ bytes_length n
-length_full n h =
-    let q : n / 16 ≡ suc ((n - 16) / 16) = omega arith in
-    let r : (n - 16) % 16 ≡ n % 16 = omega arith in
-    ap (λ (x : ℕ). 66 + (66 * ((n - 16) / 16) + cond (eqb x 0) 0 (2 + 4 * x))) r
-    ∙ (let s : 66 + (66 * ((n - 16) / 16) + cond (eqb (n % 16) 0) 0 (2 + 4 * (n % 16))) ≡ 66 * suc ((n - 16) / 16) + cond (eqb (n % 16) 0) 0 (2 + 4 * (n % 16)) = omega arith in s)
-    ∙ ap (λ (x : ℕ). 66 * x + cond (eqb (n % 16) 0) 0 (2 + 4 * (n % 16))) (sym q)
-
-length_short : (n : ℕ) → 0 < n → n < 16 → bytes_length n ≡ 2 + 4 * n
-length_short n some few =
-    let q : n / 16 ≡ 0 = omega arith in
-    let r : n % 16 ≡ n = omega arith in
-    let apart : n ≡ 0 → ⊥ = λ (e : n ≡ 0). omega arith in
-    ap (λ (x : ℕ). 66 * x + cond (eqb (n % 16) 0) 0 (2 + 4 * (n % 16))) q
-    ∙ ap (λ (x : ℕ). 66 * 0 + cond (eqb x 0) 0 (2 + 4 * x)) r
-    ∙ ap (λ (b : Bool). 66 * 0 + cond b 0 (2 + 4 * n)) (ne_eqb n 0 apart)
-    ∙ omega arith
-
 bytes_rows : (m : ℕ) (bs : List ℕ) (rest : List Entry) → length bs ≤ m → rows_length (with_bytes (length bs) bs rest) ≡ bytes_length (length bs) + rows_length rest
 bytes_rows m [] rest few = omega arith
 bytes_rows zero (b ∷ bs) rest few = absurd (omega arith)
@@ -65,12 +47,10 @@ bytes_rows (suc m) (b ∷ bs) rest few =
     go (inl short) left =
         let none : length (drop 16 (b ∷ bs)) ≡ 0 = omega arith in
         let took : length (take 16 (b ∷ bs)) ≡ length (b ∷ bs) = simp length-take (omega arith) in
-        ap (λ (x : ℕ). (2 + 4 * length (take 16 (b ∷ bs))) + (bytes_length x + rows_length rest)) none
-        ∙ omega (arith, length_short (length (b ∷ bs)) (omega arith) short)
+        omega arith
     go (inr full) left =
         let took : length (take 16 (b ∷ bs)) ≡ 16 = simp length-take (omega arith) in
-        ap (λ (x : ℕ). (2 + 4 * length (take 16 (b ∷ bs))) + (bytes_length x + rows_length rest)) left
-        ∙ omega (arith, length_full (length (b ∷ bs)) full)
+        omega arith
 
 relocations_rows : (rs : List Relocation) (rest : List Entry) → rows_length (with_relocations rs rest) ≡ 62 * length rs + rows_length rest
 relocations_rows [] rest = omega arith

@@ -1,3 +1,3 @@
-mod Fronts
+mod Writing
 mod Texts
 mod Lengths

@@ -1,11 +1,11 @@
 -- The parts of a table's text, and how long they are.
-use Rattle.std.specs.Prelude.{ℕ, ◌+◌, ◌*◌, ◌/◌, ◌%◌, cond, List, [], ◌++◌, length, Some, None, Option, ◌==◌}
+use Rattle.std.specs.Prelude.{ℕ, ◌+◌, ◌*◌, List, [], ◌++◌, length, take, drop, Some, None, Option}
 use Rattle.std.specs.List.{flat_map}
 use Rattle.model.specs.declared.Record.{Record}
 use Rattle.model.specs.declared.Relocation.{Relocation}
 use Rattle.model.specs.Graph.{Body, Graph}
-use Rattle.row.specs.Entry.{render, end}
-use Rattle.layout.specs.Layout.{with_bytes, with_relocations, with_section, with_sections, with_roots, present_count}
+use Rattle.row.specs.Entry.{render, bytes, relocation, root, end}
+use Rattle.layout.specs.Layout.{with_bytes, with_relocations, with_section, with_sections, with_roots, present_count, bytes_length}
 
 -- the bytes of a section, and its relocations: an absent one has none
 abbrev pub bytes_in : Option Body → List ℕ
@@ -15,6 +15,19 @@ bytes_in (Some b) = b.bytes
 abbrev pub relocations_in : Option Body → List Relocation
 relocations_in None = []
 relocations_in (Some b) = b.relocations
+
+-- the row of the sixteen bytes from 16 * k on, or of those that are left
+abbrev pub byte_row : List ℕ → ℕ → List ℕ
+byte_row bs k = render (bytes (take 16 (drop (16 * k) bs)))
+
+-- the row of a relocation or of a root that is there
+abbrev pub relocation_row : Option Relocation → List ℕ
+relocation_row None = []
+relocation_row (Some r) = render (relocation r)
+
+abbrev pub root_row : Option ℕ → List ℕ
+root_row None = []
+root_row (Some t) = render (root t)
 
 -- the rows of some bytes, sixteen a row
 unfoldable pub bytes_text : List ℕ → List ℕ
@@ -34,14 +47,6 @@ sections_text s bs = flat_map render (with_sections s bs [])
 
 unfoldable pub roots_text : List ℕ → List ℕ
 roots_text ts = flat_map render (with_roots ts [])
-
--- the rows behind the sections
-unfoldable pub closing_text : Graph → List ℕ
-closing_text g = roots_text g.roots ++ render (end (present_count g.sections))
-
--- how long the rows of n bytes are
-abbrev pub bytes_length : ℕ → ℕ
-bytes_length n = 66 * (n / 16) + cond (n % 16 == 0) 0 (2 + 4 * (n % 16))
 
 -- how long the rows of a section are
 abbrev pub record_length : Record → ℕ

@@ -2,44 +2,34 @@
 
 #![tactic(auto)]
 
-ghost use Rattle.std.specs.Prelude.{◌≡◌, ◌+◌, ◌-◌, ◌*◌, ◌≤◌, length, take, drop, Some};
-ghost use Rattle.model.specs.Graph.{section_of, record_of, root_count_of};
-ghost use Rattle.row_writer.specs.Writing.{small, wrote, put};
+ghost use Rattle.std.specs.Prelude.{◌≡◌, ℕ, ◌+◌, ◌*◌, ◌<◌, ◌≤◌, List, length};
+ghost use Rattle.std.specs.Borrow.{MutBor};
+ghost use Rattle.model.specs.Graph.{section_of, relocation_of, root_of, root_count_of};
+ghost use Rattle.row_writer.specs.Writing.{wrote, put};
 ghost use Rattle.layout.specs.Layout.{text_of, present_count};
-ghost use Rattle.table_writer.specs.Texts.{bytes_in, relocations_in, bytes_text, relocations_text, section_text, sections_text, roots_text, closing_text, bytes_length, record_length};
+ghost use Rattle.table_writer.specs.Texts.{bytes_in, relocations_in, bytes_text, relocations_text, section_text, sections_text, roots_text, record_length, byte_row, relocation_row, root_row};
+ghost use Rattle.table_writer.specs.Writes.{Writes, pieces, EachWrites};
 
 use fault::{Fault, Kind, Layer};
 use graph::SectionGraph;
+use layout::bytes_length;
 use model::Record;
 use row_writer::{
     write_bytes, write_end, write_header, write_relocation, write_root, write_section,
 };
-
-// How long the rows of `size` bytes are: sixteen a row, and the last the rest.
-fn bytes_length(size: u16) -> usize
-    ensures { result ≡ bytes_length size }
-{
-    let full = 66 * (size as usize / 16);
-    let rest = size as usize % 16;
-    if rest == 0 {
-        full
-    } else {
-        full + (2 + 4 * rest)
-    }
-}
+use std::array;
 
 // How long the rows of a section are.
 fn section_length(record: &Record) -> usize
     ensures long { result ≡ record_length «record».now }
     ensures few { result ≤ 5000000 }
 {
-    74 + (bytes_length(record.size) + 62 * record.relocations as usize)
+    74 + (bytes_length(record.size) + 62 * usize::from(record.relocations))
 }
 
 // How long the rows of all sections are: but for 26 bytes of the first row, 14 for each root and 14 of the last row, that
 // is the table.
 fn sections_length<G: SectionGraph>(graph: &G) -> usize
-    requires { G.SectionGraph.sound graph.now }
     ensures table { result + (14 * root_count_of (G.SectionGraph.graph graph.now) + 40) ≡ length (text_of (G.SectionGraph.graph graph.now)) }
     ensures few { result ≤ 5120000000 }
 {
@@ -54,16 +44,14 @@ fn sections_length<G: SectionGraph>(graph: &G) -> usize
 
 // How long the table of a section graph is. Neither bytes nor relocations are asked for.
 pub fn table_length<G: SectionGraph>(graph: &G) -> usize
-    requires { G.SectionGraph.sound graph.now }
     ensures { result ≡ length (text_of (G.SectionGraph.graph graph.now)) }
 {
-    let roots = graph.root_count() as usize;
+    let roots = usize::from(graph.root_count());
     sections_length(graph) + (14 * roots + 40)
 }
 
 // How many sections are present.
 fn present<G: SectionGraph>(graph: &G) -> u16
-    requires { G.SectionGraph.sound graph.now }
     ensures { result ≡ present_count (G.SectionGraph.graph graph.now).sections }
 {
     let mut count = 0;
@@ -75,20 +63,39 @@ fn present<G: SectionGraph>(graph: &G) -> u16
     count
 }
 
-// The bytes of section `s` from `start` to `stop`, at most sixteen, at the front of a row.
-fn gather<G: SectionGraph>(graph: &G, s: u16, start: u16, stop: u16) -> [u8; 16]
-    requires sound { G.SectionGraph.sound graph.now }
-    requires few { stop ≤ start + 16 }
-    requires inside { stop ≤ length (bytes_in (section_of (G.SectionGraph.graph graph.now) s)) }
-    ensures { take (stop - start) result ≡ take (stop - start) (drop start (bytes_in (section_of (G.SectionGraph.graph graph.now) s))) }
+// Writes the pieces of a text, each behind the last.
+fn write_each<F: Fn(u16, &mut [u8]) -> Result<usize, Fault>>(
+    count: u16,
+    out: &mut [u8],
+    write: F,
+) -> Result<usize, Fault>
+    requires callable { (k : ℕ) (part : MutBor (List ℕ)) → k < count → F.pre write k part }
+    requires writes { (piece : ℕ → List ℕ) × EachWrites (F.post write) count piece }
+    ensures { (piece : ℕ → List ℕ) → EachWrites (F.post write) count piece → Writes (pieces piece count) out.old out.new result }
 {
-    let mut row = [0; 16];
-    for i in start..stop {
-        if let Some(b) = graph.byte(s, i) {
-            row[(i - start) as usize] = b;
-        }
+    let mut at = 0;
+    for k in 0..count {
+        at += write(k, &mut out[at..])?;
     }
-    row
+    Ok(at)
+}
+
+// Writes the row of the sixteen bytes of section `s` from `16 * k` on, or of those that are left. There are `size`.
+fn write_byte_row<G: SectionGraph>(
+    graph: &G,
+    s: u16,
+    size: u16,
+    k: u16,
+    out: &mut [u8],
+) -> Result<usize, Fault>
+    requires size { size ≡ length (bytes_in (section_of (G.SectionGraph.graph graph.now) s)) }
+    requires inside { 16 * k < size }
+    ensures { Writes (byte_row (bytes_in (section_of (G.SectionGraph.graph graph.now) s)) k) out.old out.new result }
+{
+    let start = 16 * k;
+    let row: [u8; 16] = array::from_fn(|i| graph.byte(s, start + i as u16).unwrap_or(0));
+    let count = (size - start).min(16);
+    write_bytes(&row[..usize::from(count)], out)
 }
 
 // Writes the rows of the bytes of section `s`, of which there are `size`.
@@ -98,21 +105,27 @@ fn write_byte_rows<G: SectionGraph>(
     size: u16,
     out: &mut [u8],
 ) -> Result<usize, Fault>
-    requires sound { G.SectionGraph.sound graph.now }
-    requires size { size ≡ length (bytes_in (section_of (G.SectionGraph.graph graph.now) s)) }
-    requires room { length (bytes_text (bytes_in (section_of (G.SectionGraph.graph graph.now) s))) ≤ length out.old }
-    ensures answer { result ≡ wrote (bytes_text (bytes_in (section_of (G.SectionGraph.graph graph.now) s))) out.old }
-    ensures text { out.new ≡ put (bytes_text (bytes_in (section_of (G.SectionGraph.graph graph.now) s))) out.old }
+    requires { size ≡ length (bytes_in (section_of (G.SectionGraph.graph graph.now) s)) }
+    ensures { Writes (bytes_text (bytes_in (section_of (G.SectionGraph.graph graph.now) s))) out.old out.new result }
 {
-    let mut at = 0;
-    let mut start = 0;
-    while start < size {
-        let count = (size - start).min(16);
-        let row = gather(graph, s, start, start + count);
-        at += write_bytes(&row[..count as usize], &mut out[at..])?;
-        start += count;
+    write_each(size.div_ceil(16), out, |k: u16, part: &mut [u8]| {
+        write_byte_row(graph, s, size, k, part)
+    })
+}
+
+// Writes the row of relocation `j` of section `s`.
+fn write_relocation_row<G: SectionGraph>(
+    graph: &G,
+    s: u16,
+    j: u16,
+    out: &mut [u8],
+) -> Result<usize, Fault>
+    ensures { Writes (relocation_row (relocation_of (G.SectionGraph.graph graph.now) s j)) out.old out.new result }
+{
+    match graph.relocation(s, j) {
+        Some(relocation) => write_relocation(&relocation, out),
+        None => Ok(0),
     }
-    Ok(at)
 }
 
 // Writes the rows of the relocations of section `s`, of which there are `count`.
@@ -122,117 +135,74 @@ fn write_relocation_rows<G: SectionGraph>(
     count: u16,
     out: &mut [u8],
 ) -> Result<usize, Fault>
-    requires sound { G.SectionGraph.sound graph.now }
-    requires count { count ≡ length (relocations_in (section_of (G.SectionGraph.graph graph.now) s)) }
-    requires room { length (relocations_text (relocations_in (section_of (G.SectionGraph.graph graph.now) s))) ≤ length out.old }
-    ensures answer { result ≡ wrote (relocations_text (relocations_in (section_of (G.SectionGraph.graph graph.now) s))) out.old }
-    ensures text { out.new ≡ put (relocations_text (relocations_in (section_of (G.SectionGraph.graph graph.now) s))) out.old }
+    requires { count ≡ length (relocations_in (section_of (G.SectionGraph.graph graph.now) s)) }
+    ensures { Writes (relocations_text (relocations_in (section_of (G.SectionGraph.graph graph.now) s))) out.old out.new result }
 {
-    let mut at = 0;
-    for j in 0..count {
-        if let Some(relocation) = graph.relocation(s, j) {
-            at += write_relocation(&relocation, &mut out[at..])?;
-        }
-    }
-    Ok(at)
+    write_each(count, out, |j: u16, part: &mut [u8]| {
+        write_relocation_row(graph, s, j, part)
+    })
 }
 
-// Writes the rows of section `s`, which is present.
-fn write_section_rows<G: SectionGraph>(
-    graph: &G,
-    s: u16,
-    record: &Record,
-    out: &mut [u8],
-) -> Result<usize, Fault>
-    requires sound { G.SectionGraph.sound graph.now }
-    requires told { record_of (G.SectionGraph.graph graph.now) s ≡ Some «record».now }
-    requires room { length (section_text s (section_of (G.SectionGraph.graph graph.now) s)) ≤ length out.old }
-    ensures answer { result ≡ wrote (section_text s (section_of (G.SectionGraph.graph graph.now) s)) out.old }
-    ensures text { out.new ≡ put (section_text s (section_of (G.SectionGraph.graph graph.now) s)) out.old }
+// Writes the rows of section `s`, if it is present.
+fn write_section_rows<G: SectionGraph>(graph: &G, s: u16, out: &mut [u8]) -> Result<usize, Fault>
+    ensures { Writes (section_text s (section_of (G.SectionGraph.graph graph.now) s)) out.old out.new result }
 {
-    let mut at = write_section(s, record, out)?;
-    at += write_byte_rows(graph, s, record.size, &mut out[at..])?;
-    at += write_relocation_rows(graph, s, record.relocations, &mut out[at..])?;
+    let Some(told) = graph.record_of(s) else {
+        return Ok(0);
+    };
+    let mut at = write_section(s, &told, out)?;
+    at += write_byte_rows(graph, s, told.size, &mut out[at..])?;
+    at += write_relocation_rows(graph, s, told.relocations, &mut out[at..])?;
     Ok(at)
 }
 
 // Writes the rows of the present sections.
 fn write_sections<G: SectionGraph>(graph: &G, out: &mut [u8]) -> Result<usize, Fault>
-    requires sound { G.SectionGraph.sound graph.now }
-    requires room { length (sections_text 0 (G.SectionGraph.graph graph.now).sections) ≤ length out.old }
-    ensures answer { result ≡ wrote (sections_text 0 (G.SectionGraph.graph graph.now).sections) out.old }
-    ensures text { out.new ≡ put (sections_text 0 (G.SectionGraph.graph graph.now).sections) out.old }
+    ensures { Writes (sections_text 0 (G.SectionGraph.graph graph.now).sections) out.old out.new result }
 {
-    let mut at = 0;
-    for s in 0..graph.count() {
-        if let Some(record) = graph.record_of(s) {
-            at += write_section_rows(graph, s, &record, &mut out[at..])?;
-        }
+    write_each(graph.count(), out, |s: u16, part: &mut [u8]| {
+        write_section_rows(graph, s, part)
+    })
+}
+
+// Writes the row of root `j`.
+fn write_root_row<G: SectionGraph>(graph: &G, j: u16, out: &mut [u8]) -> Result<usize, Fault>
+    ensures { Writes (root_row (root_of (G.SectionGraph.graph graph.now) j)) out.old out.new result }
+{
+    match graph.root(j) {
+        Some(number) => write_root(number, out),
+        None => Ok(0),
     }
-    Ok(at)
 }
 
 // Writes the rows of the roots.
 fn write_roots<G: SectionGraph>(graph: &G, out: &mut [u8]) -> Result<usize, Fault>
-    requires sound { G.SectionGraph.sound graph.now }
-    requires room { length (roots_text (G.SectionGraph.graph graph.now).roots) ≤ length out.old }
-    ensures answer { result ≡ wrote (roots_text (G.SectionGraph.graph graph.now).roots) out.old }
-    ensures text { out.new ≡ put (roots_text (G.SectionGraph.graph graph.now).roots) out.old }
+    ensures { Writes (roots_text (G.SectionGraph.graph graph.now).roots) out.old out.new result }
 {
-    let mut at = 0;
-    for j in 0..graph.root_count() {
-        if let Some(number) = graph.root(j) {
-            at += write_root(number, &mut out[at..])?;
-        }
-    }
-    Ok(at)
+    write_each(graph.root_count(), out, |j: u16, part: &mut [u8]| {
+        write_root_row(graph, j, part)
+    })
 }
 
-// Writes the rows behind the sections: the roots, and the end.
-fn write_closing<G: SectionGraph>(graph: &G, out: &mut [u8]) -> Result<usize, Fault>
-    requires sound { G.SectionGraph.sound graph.now }
-    requires room { length (closing_text (G.SectionGraph.graph graph.now)) ≤ length out.old }
-    ensures answer { result ≡ wrote (closing_text (G.SectionGraph.graph graph.now)) out.old }
-    ensures text { out.new ≡ put (closing_text (G.SectionGraph.graph graph.now)) out.old }
+// Writes the rows of a table.
+fn write_rows<G: SectionGraph>(graph: &G, out: &mut [u8]) -> Result<usize, Fault>
+    ensures { Writes (text_of (G.SectionGraph.graph graph.now)) out.old out.new result }
 {
-    let mut at = write_roots(graph, out)?;
+    let mut at = write_header(graph.count(), graph.root_count(), out)?;
+    at += write_sections(graph, &mut out[at..])?;
+    at += write_roots(graph, &mut out[at..])?;
     at += write_end(present(graph), &mut out[at..])?;
     Ok(at)
 }
 
-// Writes the rows of a table into a buffer that has room for them.
-fn write_rows<G: SectionGraph>(graph: &G, out: &mut [u8]) -> Result<usize, Fault>
-    requires sound { G.SectionGraph.sound graph.now }
-    requires room { length (text_of (G.SectionGraph.graph graph.now)) ≤ length out.old }
-    ensures answer { result ≡ wrote (text_of (G.SectionGraph.graph graph.now)) out.old }
-    ensures text { out.new ≡ put (text_of (G.SectionGraph.graph graph.now)) out.old }
-{
-    let mut at = write_header(graph.count(), graph.root_count(), out)?;
-    at += write_sections(graph, &mut out[at..])?;
-    at += write_closing(graph, &mut out[at..])?;
-    Ok(at)
-}
-
-// The refusal of a buffer that is too short.
-fn too_small(needed: usize) -> Fault
-    ensures { result ≡ small needed }
-{
-    Fault {
-        kind: Kind::Small,
-        place: needed as u64,
-        layer: Layer::Output,
-    }
-}
-
 // Writes a table whose length is known, or refuses a buffer that is shorter.
 fn write_within<G: SectionGraph>(graph: &G, needed: usize, out: &mut [u8]) -> Result<usize, Fault>
-    requires sound { G.SectionGraph.sound graph.now }
-    requires long { needed ≡ length (text_of (G.SectionGraph.graph graph.now)) }
+    requires { needed ≡ length (text_of (G.SectionGraph.graph graph.now)) }
     ensures answer { result ≡ wrote (text_of (G.SectionGraph.graph graph.now)) out.old }
     ensures text { out.new ≡ put (text_of (G.SectionGraph.graph graph.now)) out.old }
 {
     if out.len() < needed {
-        return Err(too_small(needed));
+        return Err(Fault::new(Kind::Small, needed as u64, Layer::Output));
     }
     write_rows(graph, out)
 }
@@ -240,7 +210,6 @@ fn write_within<G: SectionGraph>(graph: &G, needed: usize, out: &mut [u8]) -> Re
 // Writes the table of a section graph over the front of the buffer, and answers how long it is. What stands behind it in
 // the buffer stays. A buffer that is too short is refused with the length needed before anything is written.
 pub fn write_table<G: SectionGraph>(graph: &G, out: &mut [u8]) -> Result<usize, Fault>
-    requires { G.SectionGraph.sound graph.now }
     ensures answer { result ≡ wrote (text_of (G.SectionGraph.graph graph.now)) out.old }
     ensures text { out.new ≡ put (text_of (G.SectionGraph.graph graph.now)) out.old }
 {

@@ -19,7 +19,7 @@ loop-s-preserved g c =
 pub returns : goal.returns
 returns g c =
     let x = g.G.SectionGraph.graph c.args.graph.now in
-    let v = g.met.G.SectionGraph.valid c.args.graph.now c.requires in
+    let v = g.met.G.SectionGraph.valid c.args.graph.now in
     let all = length_all x.sections c.loop-s.s (omega (arith, c.loop-s-test.false, c.count-s-end.ensures)) in
     let few : c.loop-s.s ≤ 1024 = omega (arith, c.loop-s.auto.s-end, c.count-s-end.ensures, v.few) in
     record { table = omega (arith, c.loop-s.invariant.0, all, table_length x v); few = omega (arith, c.loop-s.invariant.1, few) }
