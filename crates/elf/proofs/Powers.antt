@@ -16,7 +16,7 @@ below_found a k (suc n) h e = go (cases_eq k n) (λ l. below_found a k n l e)
     go (inr q) ih = or_left (power_below a n) (eqb a (2 ^ n)) (ih (omega arith))
 
 -- a power of two that was found
-power_of : (a n : ℕ) → power_below a n ≡ true → (k : ℕ) × (k < n) × (a ≡ 2 ^ k)
+pub power_of : (a n : ℕ) → power_below a n ≡ true → (k : ℕ) × (k < n) × (a ≡ 2 ^ k)
 power_of a zero e = let z : ◌≡◌ {A = Bool} false true = e in let y : ◌≡◌ {A = ℕ} 0 1 = cc in absurd (omega arith)
 power_of a (suc n) e = go (or_cases (power_below a n) (eqb a (2 ^ n)) e) (power_of a n)
   where
