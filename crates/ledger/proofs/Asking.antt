@@ -1,10 +1,11 @@
 -- What the pile answers, from what the graph below answers.
-use Rattle.std.proofs.Common.{◌≡◌, ℕ, zero, suc, ◌+◌, ◌-◌, ◌<◌, ◌≤◌, Bool, true, false, cond, ltb, leb, List, [], ◌∷◌, ◌++◌, map, length, get_or, is_some, Some, None, Ok, Err, Option, sym, refl, ap, ◌∙◌, ⊎_elim, arith}
+use Rattle.std.proofs.Common.{◌≡◌, ℕ, zero, suc, ◌+◌, ◌-◌, ◌≤◌, Bool, true, false, cond, ltb, leb, List, [], ◌∷◌, ◌++◌, map, length, is_some, Some, None, Ok, Err, Option, sym, refl, ap, ◌∙◌, ⊎_elim, arith}
 use Rattle.std.specs.Option.{option_map}
 use Rattle.std.specs.List.{slice_get}
-use Rattle.std.proofs.lemmas.Bool.{cases_lt, lt-ltb, le-ltb, le-leb, cond-true, cond-false}
-use Rattle.std.proofs.lemmas.List.{length-map, get_or_append_left, get_or_push}
-use Rattle.std.proofs.lemmas.Option.{slice_get-get_or, slice_get_past}
+use Rattle.std.proofs.lemmas.Bool.{cases_lt, le-leb, cond-true}
+use Rattle.std.proofs.lemmas.List.{length-map}
+use Rattle.std.proofs.lemmas.Option.{slice_get-get_or}
+use Rattle.arrayvec.specs.ArrayVec.{array_vec_len}
 use Rattle.model.specs.declared.Setting.TheVariants.{Pinned}
 use Rattle.model.specs.declared.Target.{Target}
 use Rattle.model.specs.declared.Relocation.{Relocation}
@@ -12,7 +13,6 @@ use Rattle.model.specs.declared.Record.{Record}
 use Rattle.model.specs.Graph.{Body, Graph, section_of, count_of, told_record, told_byte, told_relocation, record_of, byte_of, relocation_of, root_of, root_count_of}
 use Rattle.steps.proofs.Nth.{nth_map}
 use Rattle.unfolding.specs.Groups.{aimed_at, aimed, moved, present}
-use Rattle.folding.proofs.Rebuilt.{rebuilt_length}
 use Rattle.calls.specs.declared.Slot.{Slot}
 use Rattle.calls.specs.declared.Slot.TheVariants.{Untouched, Folded, Swept}
 use Rattle.calls.specs.declared.Place.TheVariants.{Absent}
@@ -23,21 +23,16 @@ use Rattle.runs.specs.Seen.{found_number, left_of, seen_section}
 use Rattle.runs.proofs.Seen.{seen_at}
 use Rattle.slots.specs.Turns.{untouched}
 use Rattle.ledger.specs.declared.Ledger.{Ledger}
-use Rattle.ledger.specs.Told.{bound_by, first, pinned, drawn_section, drawn_from, told}
+use Rattle.ledger.specs.Told.{bound_by, pinned, drawn_section, drawn_from, told}
 use Rattle.ledger.specs.Answers.{seen_record, seen_byte, seen_target, seen_relocation, added_root, seen_root, placed}
 use Rattle.ledger.proofs.Drawing.{aimed_twice, drawn_at, drawn_count, drawn_present, drawn_roots}
-use Rattle.ledger.proofs.Telling.{told_graph, roots_length, length_first}
+use Rattle.ledger.proofs.Telling.{told_graph, roots_length}
 
 -- a section of the pile
 pub told_at : (g : Graph) (t : Ledger) (s : ℕ) → section_of (told g t).graph s ≡ seen_section t.slots.list s (drawn_section t s (section_of g s))
 told_at g t s =
     ap (λ (x : Graph). section_of x s) (told_graph g t) ∙
     (seen_at t.slots.list (drawn_from g t) s ∙ ap (seen_section t.slots.list s) (drawn_at g t s))
-
-pub told_count : (g : Graph) (t : Ledger) → count_of (told g t).graph ≡ count_of g
-told_count g t =
-    ap (λ (x : Graph). count_of x) (told_graph g t) ∙
-    (rebuilt_length (seen_section t.slots.list) (drawn_from g t) ∙ drawn_count g t)
 
 -- records and bytes
 
@@ -125,11 +120,11 @@ tells_relocation g t s j =
 
 -- roots
 
-pub told_roots : (g : Graph) (t : Ledger) → (told g t).graph.roots ≡ map (found_number t.slots.list) (g.roots ++ first t.roots t.added)
+pub told_roots : (g : Graph) (t : Ledger) → (told g t).graph.roots ≡ map (found_number t.slots.list) (g.roots ++ t.roots.items)
 told_roots g t =
     ap (λ (x : Graph). x.roots) (told_graph g t) ∙ ap (map (found_number t.slots.list)) (drawn_roots g t)
 
-pub tells_root_count : (g : Graph) (t : Ledger) → root_count_of (told g t).graph ≡ root_count_of g + t.added
+pub tells_root_count : (g : Graph) (t : Ledger) → root_count_of (told g t).graph ≡ root_count_of g + array_vec_len t.roots
 tells_root_count g t =
     ap (λ (x : Graph). root_count_of x) (told_graph g t) ∙
     (length-map (drawn_from g t).roots (found_number t.slots.list) ∙ roots_length g t)
@@ -160,49 +155,22 @@ nth_out xs j e =
     (λ h. h)
     (cases_lt j (length xs))
 
-getD_first : (xs : List ℕ) (k j : ℕ) → j < k → get_or (first xs k) j 0 ≡ get_or xs j 0
-getD_first xs zero j h = absurd (omega arith)
-getD_first xs (suc k) j h =
-    ⊎_elim
-    (λ l.
-    let long : j < length (first xs k) = omega (arith, length_first xs k) in
-    get_or_append_left (first xs k) (get_or xs k 0 ∷ []) 0 j long ∙ getD_first xs k j l)
-    (λ l.
-    let at : k ≡ j = omega arith in
-    get_or_push (first xs k) (get_or xs k 0) 0 j (length_first xs k ∙ at) ∙ ap (λ (i : ℕ). get_or xs i 0) at)
-    (cases_lt j k)
-
-nth_first : (f : ℕ → ℕ) (xs : List ℕ) (k j : ℕ) → option_map f (slice_get (first xs k) j) ≡ cond (ltb j k) (Some (f (get_or xs j 0))) None
-nth_first f xs k j =
-    ⊎_elim
-    (λ l.
-    let long : j < length (first xs k) = omega (arith, length_first xs k) in
-    ap (option_map f) (slice_get-get_or (first xs k) j 0 long) ∙
-    (ap (λ (x : ℕ). Some (f x)) (getD_first xs k j l) ∙
-    sym (cond-true (ltb j k) (Some (f (get_or xs j 0))) None (lt-ltb j k l))))
-    (λ l.
-    let out : length (first xs k) ≤ j = omega (arith, length_first xs k) in
-    ap (option_map f) (slice_get_past (first xs k) j out) ∙
-    sym (cond-false (ltb j k) (Some (f (get_or xs j 0))) None (le-ltb j k l)))
-    (cases_lt j k)
-
 pub tells_root : (g : Graph) (t : Ledger) (j : ℕ) → root_of (told g t).graph j ≡ seen_root t (root_count_of g) j (root_of g j)
 tells_root g t j =
     ap (λ (xs : List ℕ). slice_get xs j) (told_roots g t) ∙
-    (nth_map (found_number t.slots.list) (g.roots ++ first t.roots t.added) j ∙ go (root_of g j) refl)
+    (nth_map (found_number t.slots.list) (g.roots ++ t.roots.items) j ∙ go (root_of g j) refl)
   where
     go :
         (o : Option ℕ) →
         root_of g j ≡ o →
-        option_map (found_number t.slots.list) (slice_get (g.roots ++ first t.roots t.added) j) ≡
+        option_map (found_number t.slots.list) (slice_get (g.roots ++ t.roots.items) j) ≡
         seen_root t (root_count_of g) j o
     go (Some s) e =
-        ap (option_map (found_number t.slots.list)) (nth_left g.roots (first t.roots t.added) j s e)
+        ap (option_map (found_number t.slots.list)) (nth_left g.roots t.roots.items j s e)
     go None e =
         let out = nth_out g.roots j e in
-        ap (option_map (found_number t.slots.list)) (nth_right g.roots (first t.roots t.added) j out) ∙
-        (nth_first (found_number t.slots.list) t.roots t.added (j - root_count_of g) ∙
-        sym (cond-true (leb (root_count_of g) j) (added_root t (j - root_count_of g)) None (le-leb (root_count_of g) j out)))
+        ap (option_map (found_number t.slots.list)) (nth_right g.roots t.roots.items j out) ∙
+        sym (cond-true (leb (root_count_of g) j) (added_root t (j - root_count_of g)) None (le-leb (root_count_of g) j out))
 
 -- the place
 

@@ -1,5 +1,5 @@
 -- The drawn graph from the inner table: what each change makes of it, and its sections.
-use Rattle.std.proofs.Common.{◌≡◌, ℕ, zero, suc, ◌+◌, ◌<◌, ◌≤◌, Bool, true, false, cond, eqb, ◌≢◌, List, [], ◌∷◌, ◌++◌, map, length, get_or, set, replicate, is_some, Some, None, Option, sym, refl, ap, ◌∙◌, subst, ⊎_elim, append_assoc, add-one, arith}
+use Rattle.std.proofs.Common.{◌≡◌, ℕ, ◌<◌, Bool, true, false, cond, eqb, List, [], ◌∷◌, ◌++◌, map, length, get_or, set, replicate, is_some, Some, None, Option, sym, refl, ap, ◌∙◌, subst, ⊎_elim, append_assoc}
 use Rattle.std.specs.Option.{option_map}
 use Rattle.std.proofs.lemmas.Bool.{cases_lt, cases_eq, eq-eqb, ne_eqb, cond-true, cond-false}
 use Rattle.std.proofs.lemmas.List.{append-nil, ext_get_or, get_or-replicate, get_or_past, get_or-set_same, get_or-set_other, length-replicate}
@@ -12,49 +12,8 @@ use Rattle.runs.specs.Drawn.{bound_target, bind, as_pinned, pin, root}
 use Rattle.runs.proofs.Draws.{bind_at, bind_count, pin_at, pin_count}
 use Rattle.ledger.specs.declared.Ledger.{Ledger}
 use Rattle.ledger.specs.Edits.{fresh, with_bind, with_pin, with_root}
-use Rattle.ledger.specs.Told.{bound_first, bound_by, first, pinned, drawn_section, drawn_from}
-
--- the first of a list, when one is set past them
-
-first_kept : (xs : List ℕ) (n v k : ℕ) → k ≤ n → first (set xs n v) k ≡ first xs k
-first_kept xs n v zero h = refl
-first_kept xs n v (suc k) h =
-    let ne : k ≢ n = omega arith in
-    let rest = first_kept xs n v k (omega arith) in
-    let here = get_or-set_other xs n k v 0 ne in
-    λ i. rest i ++ here i ∷ []
-
-pub first_more : (xs : List ℕ) (n v : ℕ) → n < length xs → first (set xs n v) (n + 1) ≡ first xs n ++ v ∷ []
-first_more xs n v h =
-    let rest = first_kept xs n v n (omega arith) in
-    let here = get_or-set_same xs n v 0 h in
-    ap (first (set xs n v)) (add-one n) ∙ (λ i. rest i ++ here i ∷ [])
-
--- the binds, when one is set past them
-
-bound_kept :
-    (names sections : List ℕ) (n e s k : ℕ) (x : Target) →
-    k ≤ n →
-    bound_first (set names n e) (set sections n s) k x ≡ bound_first names sections k x
-bound_kept names sections n e s zero x h = refl
-bound_kept names sections n e s (suc k) x h =
-    let ne : k ≢ n = omega arith in
-    let rest = bound_kept names sections n e s k x (omega arith) in
-    let name = get_or-set_other names n k e 0 ne in
-    let section = get_or-set_other sections n k s 0 ne in
-    λ i. bound_target (name i) (section i) (rest i)
-
-bound_more :
-    (names sections : List ℕ) (n e s : ℕ) (x : Target) →
-    n < length names →
-    n < length sections →
-    bound_first (set names n e) (set sections n s) (n + 1) x ≡ bound_target e s (bound_first names sections n x)
-bound_more names sections n e s x h l =
-    let rest = bound_kept names sections n e s n x (omega arith) in
-    let name = get_or-set_same names n e 0 h in
-    let section = get_or-set_same sections n s 0 l in
-    ap (λ (k : ℕ). bound_first (set names n e) (set sections n s) k x) (add-one n) ∙
-    (λ i. bound_target (name i) (section i) (rest i))
+use Rattle.ledger.specs.Told.{bound_by, pinned, drawn_section, drawn_from}
+use Rattle.ledger.proofs.Binds.{bound_push}
 
 -- relocations put elsewhere
 
@@ -118,7 +77,7 @@ drawn_some t s o = go (pinned t s) o
 pub drawn_present : (g : Graph) (t : Ledger) (s : ℕ) → present (drawn_from g t) s ≡ present g s
 drawn_present g t s = ap (λ (o : Option Body). is_some o) (drawn_at g t s) ∙ drawn_some t s (section_of g s)
 
-pub drawn_roots : (g : Graph) (t : Ledger) → (drawn_from g t).roots ≡ g.roots ++ first t.roots t.added
+pub drawn_roots : (g : Graph) (t : Ledger) → (drawn_from g t).roots ≡ g.roots ++ t.roots.items
 unfolding drawn_from
 drawn_roots g t = refl
 
@@ -154,12 +113,8 @@ drawn_fresh g =
 
 -- a bind
 
-pub drawn_bind :
-    (g : Graph) (t : Ledger) (e s : ℕ) →
-    t.bound < length t.names →
-    t.bound < length t.sections →
-    drawn_from g (with_bind t e s) ≡ bind e s (drawn_from g t)
-drawn_bind g t e s h l =
+pub drawn_bind : (g : Graph) (t : Ledger) (e s : ℕ) → drawn_from g (with_bind t e s) ≡ bind e s (drawn_from g t)
+drawn_bind g t e s =
     same_graph (drawn_from g (with_bind t e s)) (bind e s (drawn_from g t))
     (drawn_count g (with_bind t e s) ∙ sym (bind_count e s (drawn_from g t) ∙ drawn_count g t))
     (λ u.
@@ -168,7 +123,7 @@ drawn_bind g t e s h l =
     (bound_target e s)
     (bound_by t)
     (bound_by (with_bind t e s))
-    (λ x. bound_more t.names t.sections t.bound e s x h l)
+    (bound_push t.binds.items (record { name = e; section = s }))
     (cond (pinned t u) (option_map as_pinned (section_of g u)) (section_of g u)) ∙
     sym (bind_at e s (drawn_from g t) u ∙ ap (option_map (aimed (bound_target e s))) (drawn_at g t u))))
     (drawn_roots g (with_bind t e s) ∙ sym (drawn_roots g t))
@@ -212,10 +167,9 @@ drawn_pin g t s h =
 
 -- a root
 
-pub drawn_root : (g : Graph) (t : Ledger) (s : ℕ) → t.added < length t.roots → drawn_from g (with_root t s) ≡ root s (drawn_from g t)
+pub drawn_root : (g : Graph) (t : Ledger) (s : ℕ) → drawn_from g (with_root t s) ≡ root s (drawn_from g t)
 unfolding drawn_from
-drawn_root g t s h =
-    let roots : g.roots ++ first (set t.roots t.added s) (t.added + 1) ≡ (g.roots ++ first t.roots t.added) ++ s ∷ [] =
-    ap (λ (xs : List ℕ). g.roots ++ xs) (first_more t.roots t.added s h) ∙
-    sym (append_assoc g.roots (first t.roots t.added) (s ∷ [])) in
+drawn_root g t s =
+    let roots : g.roots ++ (t.roots.items ++ s ∷ []) ≡ (g.roots ++ t.roots.items) ++ s ∷ [] =
+    sym (append_assoc g.roots t.roots.items (s ∷ [])) in
     λ i. record { sections = (drawn_from g t).sections; roots = roots i }

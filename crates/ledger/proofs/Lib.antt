@@ -1,3 +1,4 @@
+pub mod OneProof
 pub mod Binds
 pub mod Drawing
 pub mod Telling

@@ -1,7 +1,8 @@
 -- What each change of the inner table means for the state, and that the state stays one that calls led to.
-use Rattle.std.proofs.Common.{◌≡◌, ℕ, zero, suc, ◌+◌, ◌<◌, ◌≤◌, Bool, true, false, cond, not, ◌&&◌, ◌||◌, eqb, leb, List, [], ◌∷◌, ◌++◌, length, get_or, drop, replicate, None, Option, sym, refl, ap, ◌∙◌, subst, add-one, arith}
+use Rattle.std.proofs.Common.{◌≡◌, ℕ, suc, ◌+◌, ◌<◌, ◌≤◌, Bool, true, false, cond, not, ◌&&◌, ◌||◌, eqb, leb, List, [], ◌∷◌, ◌++◌, length, get_or, drop, replicate, None, Option, sym, refl, ap, ◌∙◌, subst, add-one, arith}
 use Rattle.std.proofs.lemmas.Bool.{or_parts, leb-false, not-false}
-use Rattle.std.proofs.lemmas.List.{length-append, length_push, length-set, length-replicate, same_lists}
+use Rattle.std.proofs.lemmas.List.{length-append, length-map, length_push, length-set, length-replicate, map-append, same_lists}
+use Rattle.arrayvec.specs.ArrayVec.{array_vec_len}
 use Rattle.fault.specs.declared.Fault.{Fault}
 use Rattle.model.specs.Graph.{Graph, count_of, root_count_of}
 use Rattle.model.specs.Laws.{Valid}
@@ -12,6 +13,7 @@ use Rattle.unfolding.specs.Groups.{present, present_count}
 use Rattle.unfolding.specs.Reach.{has, reached, swept, dropped}
 use Rattle.unfolding.specs.Sections.{rep, rounds, folded, merged}
 use Rattle.unfolding.proofs.Marks.{present_bound}
+use Rattle.folding.proofs.Rebuilt.{rebuilt_length}
 use Rattle.folding.proofs.Theorems.{sweep_sweeps, fold_folds}
 use Rattle.calls.specs.declared.Slot.{Slot}
 use Rattle.calls.specs.declared.Slot.TheVariants.{Untouched, Folded, Swept}
@@ -20,7 +22,7 @@ use Rattle.calls.specs.declared.Call.TheVariants.{Bind, Pin, Root, Sweep, Fold}
 use Rattle.calls.specs.declared.Answer.TheVariants.{Dropped, Merged}
 use Rattle.runs.specs.Drawn.{drawn_by}
 use Rattle.runs.specs.State.{State, start, closed_fault, no_section, bound_before, full, check, refusal, slot_of, slots_by, swept_slot, folded_slot, moved, unless, step, answer, run, after}
-use Rattle.runs.specs.Seen.{seen_through}
+use Rattle.runs.specs.Seen.{seen_section, seen_through}
 use Rattle.runs.specs.Laws.{Tells}
 use Rattle.runs.proofs.Slots.{slots_length}
 use Rattle.runs.proofs.Seen.{pile_seen, fresh_seen}
@@ -29,11 +31,12 @@ use Rattle.runs.proofs.Telling.{pile_tells}
 use Rattle.runs.proofs.Promised.{promise_stands}
 use Rattle.slots.specs.declared.Slots.{Slots}
 use Rattle.slots.specs.Turns.{stays, drops, dropped_slot, leads, joins, joined_slot}
+use Rattle.ledger.specs.declared.Bind.{Bind as BindOf}
 use Rattle.ledger.specs.declared.Ledger.{Ledger}
 use Rattle.ledger.specs.Edits.{fresh, Bounds, with_bind, with_pin, with_root, shut, Shut}
-use Rattle.ledger.specs.Told.{first, drawn_from, told, Reachable, Kept}
+use Rattle.ledger.specs.Told.{bound_names, drawn_from, told, Reachable, Kept}
 use Rattle.ledger.specs.Answers.{bind_refused, pin_refused, root_refused}
-use Rattle.ledger.proofs.Drawing.{first_more, drawn_present, drawn_roots, drawn_fresh, drawn_bind, drawn_pin, drawn_root}
+use Rattle.ledger.proofs.Drawing.{drawn_count, drawn_present, drawn_roots, drawn_fresh, drawn_bind, drawn_pin, drawn_root}
 
 -- the parts of the state
 
@@ -45,15 +48,20 @@ pub told_graph : (g : Graph) (t : Ledger) → (told g t).graph ≡ seen_through 
 unfolding told
 told_graph g t = refl
 
+pub told_count : (g : Graph) (t : Ledger) → count_of (told g t).graph ≡ count_of g
+told_count g t =
+    ap (λ (x : Graph). count_of x) (told_graph g t) ∙
+    (rebuilt_length (seen_section t.slots.list) (drawn_from g t) ∙ drawn_count g t)
+
 pub told_slots : (g : Graph) (t : Ledger) → (told g t).slots ≡ t.slots.list
 unfolding told
 told_slots g t = refl
 
-pub told_bound : (g : Graph) (t : Ledger) → (told g t).bound ≡ first t.names t.bound
+pub told_bound : (g : Graph) (t : Ledger) → (told g t).bound ≡ bound_names t
 unfolding told
 told_bound g t = refl
 
-pub told_added : (g : Graph) (t : Ledger) → (told g t).added ≡ t.added
+pub told_added : (g : Graph) (t : Ledger) → (told g t).added ≡ array_vec_len t.roots
 unfolding told
 told_added g t = refl
 
@@ -75,11 +83,8 @@ fresh_bounds =
     record {
       slots = length-replicate 1024 Untouched;
       pins = length-replicate 1024 false;
-      names = length-replicate {A = ℕ} 64 0;
-      sections = length-replicate {A = ℕ} 64 0;
-      bound = omega arith;
-      roots = length-replicate {A = ℕ} 64 0;
-      added = omega arith;
+      binds = omega arith;
+      roots = omega arith;
     }
 
 pub fresh_reachable : (g : Graph) → Reachable g fresh
@@ -109,8 +114,8 @@ pub step_told :
     (c : Call) (t' : Ledger) →
     drawn_from g t' ≡ (step (told g t) c).drawn →
     t'.slots.list ≡ (step (told g t) c).slots →
-    first t'.names t'.bound ≡ (step (told g t) c).bound →
-    t'.added ≡ (step (told g t) c).added →
+    bound_names t' ≡ (step (told g t) c).bound →
+    array_vec_len t'.roots ≡ (step (told g t) c).added →
     t'.closed ≡ (step (told g t) c).closed →
     told g t' ≡ step (told g t) c
 step_told g v t r c t' drawn slots bound added closed =
@@ -141,19 +146,15 @@ step_kept g v t c t' e cs led = told_kept g v t' (cs ++ c ∷ []) (e ∙ sym (af
 
 -- why a call is refused
 
-pub length_first : (xs : List ℕ) (k : ℕ) → length (first xs k) ≡ k
-length_first xs zero = refl
-length_first xs (suc k) = let h = length_first xs k in rw (length_push (first xs k) (get_or xs k 0)) (omega arith)
-
 pub bind_refusal : (g : Graph) (t : Ledger) (e s : ℕ) → refusal (told g t) (Bind e s) ≡ bind_refused t (present g s) e s
 unfolding told
 bind_refusal g t e s =
     let p = drawn_present g t s in
-    let n = length_first t.names t.bound in
+    let n = length-map t.binds.items (λ (b : BindOf). b.name) in
     λ i.
     check t.closed closed_fault
     (check (not (p i)) (no_section s)
-    (check (has (first t.names t.bound) e) (bound_before e) (check (leb 64 (n i)) full None)))
+    (check (has (bound_names t) e) (bound_before e) (check (leb 64 (n i)) full None)))
 
 pub pin_refusal : (g : Graph) (t : Ledger) (s : ℕ) → refusal (told g t) (Pin s) ≡ pin_refused t (present g s) s
 unfolding told
@@ -161,27 +162,26 @@ pin_refusal g t s =
     let p = drawn_present g t s in
     λ i. check t.closed closed_fault (check (not (p i)) (no_section s) None)
 
-pub roots_length : (g : Graph) (t : Ledger) → root_count_of (drawn_from g t) ≡ root_count_of g + t.added
+pub roots_length : (g : Graph) (t : Ledger) → root_count_of (drawn_from g t) ≡ root_count_of g + array_vec_len t.roots
 roots_length g t =
-    ap (λ (xs : List ℕ). length xs) (drawn_roots g t) ∙
-    (length-append g.roots (first t.roots t.added) ∙ ap (λ (n : ℕ). root_count_of g + n) (length_first t.roots t.added))
+    ap (λ (xs : List ℕ). length xs) (drawn_roots g t) ∙ length-append g.roots t.roots.items
 
 pub root_refusal : (g : Graph) (t : Ledger) (s : ℕ) → refusal (told g t) (Root s) ≡ root_refused t (present g s) (root_count_of g) s
 unfolding told
 root_refusal g t s =
     let p = drawn_present g t s in
     let n = roots_length g t in
-    λ i. check t.closed closed_fault (check (not (p i)) (no_section s) (check (leb 64 t.added || leb 4096 (n i)) full None))
+    λ i. check t.closed closed_fault (check (not (p i)) (no_section s) (check (leb 64 (array_vec_len t.roots) || leb 4096 (n i)) full None))
 
 -- what an accepted call has room for
 
-pub bind_room : (t : Ledger) (there : Bool) (e s : ℕ) → bind_refused t there e s ≡ None → t.bound < 64
+pub bind_room : (t : Ledger) (there : Bool) (e s : ℕ) → bind_refused t there e s ≡ None → array_vec_len t.binds < 64
 bind_room t there e s h =
     let one = passed t.closed closed_fault _ h in
     let two = passed (not there) (no_section s) _ one.1 in
-    let three = passed (has (first t.names t.bound) e) (bound_before e) _ two.1 in
-    let four = passed (leb 64 t.bound) full None three.1 in
-    leb-false 64 t.bound four.0
+    let three = passed (has (bound_names t) e) (bound_before e) _ two.1 in
+    let four = passed (leb 64 (array_vec_len t.binds)) full None three.1 in
+    leb-false 64 (array_vec_len t.binds) four.0
 
 pub pin_there : (t : Ledger) (there : Bool) (s : ℕ) → pin_refused t there s ≡ None → there ≡ true
 pin_there t there s h =
@@ -189,12 +189,12 @@ pin_there t there s h =
     let two = passed (not there) (no_section s) None one.1 in
     not-false there two.0
 
-pub root_room : (t : Ledger) (there : Bool) (n s : ℕ) → root_refused t there n s ≡ None → t.added < 64
+pub root_room : (t : Ledger) (there : Bool) (n s : ℕ) → root_refused t there n s ≡ None → array_vec_len t.roots < 64
 root_room t there n s h =
     let one = passed t.closed closed_fault _ h in
     let two = passed (not there) (no_section s) _ one.1 in
-    let three = passed (leb 64 t.added || leb 4096 (n + t.added)) full None two.1 in
-    leb-false 64 t.added (or_parts (leb 64 t.added) (leb 4096 (n + t.added)) three.0).0
+    let three = passed (leb 64 (array_vec_len t.roots) || leb 4096 (n + array_vec_len t.roots)) full None two.1 in
+    leb-false 64 (array_vec_len t.roots) (or_parts (leb 64 (array_vec_len t.roots)) (leb 4096 (n + array_vec_len t.roots)) three.0).0
 
 pub small : (g : Graph) → Valid g → (s : ℕ) → present g s ≡ true → s < 1024
 small g v s p = let h = present_bound g s p in omega (arith, v.few)
@@ -204,17 +204,14 @@ small g v s p = let h = present_bound g s p in omega (arith, v.few)
 accepted : (st : State) (c : Call) → refusal st c ≡ None → step st c ≡ moved st c
 accepted st c e = ap (λ (o : Option Fault). unless o st (moved st c)) e
 
-pub told_bind : (g : Graph) → Valid g → (t : Ledger) → Reachable g t → (e s : ℕ) → refusal (told g t) (Bind e s) ≡ None → t.bound < 64 → told g (with_bind t e s) ≡ step (told g t) (Bind e s)
-told_bind g v t r e s none room =
+pub told_bind : (g : Graph) → Valid g → (t : Ledger) → Reachable g t → (e s : ℕ) → refusal (told g t) (Bind e s) ≡ None → told g (with_bind t e s) ≡ step (told g t) (Bind e s)
+told_bind g v t r e s none =
     let go = accepted (told g t) (Bind e s) none in
-    let b = r.bounds in
-    let names : t.bound < length t.names = omega (arith, b.names) in
-    let sections : t.bound < length t.sections = omega (arith, b.sections) in
     step_told g v t r (Bind e s) (with_bind t e s)
-    (drawn_bind g t e s names sections ∙
+    (drawn_bind g t e s ∙
     sym (ap (λ (st : State). st.drawn) go ∙ ap (λ (d : Graph). drawn_by (Bind e s) d) (told_drawn g t)))
     (sym (ap (λ (st : State). st.slots) go ∙ told_slots g t))
-    (first_more t.names t.bound e names ∙
+    (map-append (λ (b : BindOf). b.name) t.binds.items (record { name = e; section = s } ∷ []) ∙
     sym (ap (λ (st : State). st.bound) go ∙ ap (λ (xs : List ℕ). xs ++ e ∷ []) (told_bound g t)))
     (sym (ap (λ (st : State). st.added) go ∙ told_added g t))
     (sym (ap (λ (st : State). st.closed) go ∙ told_closed g t))
@@ -232,54 +229,32 @@ told_pin g v t r s none room =
     (sym (ap (λ (st : State). st.added) go ∙ told_added g t))
     (sym (ap (λ (st : State). st.closed) go ∙ told_closed g t))
 
-pub told_root : (g : Graph) → Valid g → (t : Ledger) → Reachable g t → (s : ℕ) → refusal (told g t) (Root s) ≡ None → t.added < 64 → told g (with_root t s) ≡ step (told g t) (Root s)
-told_root g v t r s none room =
+pub told_root : (g : Graph) → Valid g → (t : Ledger) → Reachable g t → (s : ℕ) → refusal (told g t) (Root s) ≡ None → told g (with_root t s) ≡ step (told g t) (Root s)
+told_root g v t r s none =
     let go = accepted (told g t) (Root s) none in
-    let b = r.bounds in
-    let roots : t.added < length t.roots = omega (arith, b.roots) in
     step_told g v t r (Root s) (with_root t s)
-    (drawn_root g t s roots ∙
+    (drawn_root g t s ∙
     sym (ap (λ (st : State). st.drawn) go ∙ ap (λ (d : Graph). drawn_by (Root s) d) (told_drawn g t)))
     (sym (ap (λ (st : State). st.slots) go ∙ told_slots g t))
     (sym (ap (λ (st : State). st.bound) go ∙ told_bound g t))
-    (add-one t.added ∙ sym (ap (λ (st : State). st.added) go ∙ ap suc (told_added g t)))
+    (length_push t.roots.items s ∙
+    (add-one (array_vec_len t.roots) ∙ sym (ap (λ (st : State). st.added) go ∙ ap suc (told_added g t))))
     (sym (ap (λ (st : State). st.closed) go ∙ told_closed g t))
 
-pub bind_bounds : (t : Ledger) (e s : ℕ) → Bounds t → t.bound < 64 → Bounds (with_bind t e s)
+pub bind_bounds : (t : Ledger) (e s : ℕ) → Bounds t → array_vec_len t.binds < 64 → Bounds (with_bind t e s)
 bind_bounds t e s b room =
-    record {
-      slots = b.slots;
-      pins = b.pins;
-      names = length-set t.names t.bound e ∙ b.names;
-      sections = length-set t.sections t.bound s ∙ b.sections;
-      bound = omega arith;
-      roots = b.roots;
-      added = b.added;
-    }
+    let binds : length (t.binds.items ++ record { name = e; section = s } ∷ []) ≤ 64 =
+    omega (arith, length_push t.binds.items (record { name = e; section = s })) in
+    record { slots = b.slots; pins = b.pins; binds = binds; roots = b.roots }
 
 pub pin_bounds : (t : Ledger) (s : ℕ) → Bounds t → Bounds (with_pin t s)
 pin_bounds t s b =
-    record {
-      slots = b.slots;
-      pins = length-set t.pins s true ∙ b.pins;
-      names = b.names;
-      sections = b.sections;
-      bound = b.bound;
-      roots = b.roots;
-      added = b.added;
-    }
+    record { slots = b.slots; pins = length-set t.pins s true ∙ b.pins; binds = b.binds; roots = b.roots }
 
-pub root_bounds : (t : Ledger) (s : ℕ) → Bounds t → t.added < 64 → Bounds (with_root t s)
+pub root_bounds : (t : Ledger) (s : ℕ) → Bounds t → array_vec_len t.roots < 64 → Bounds (with_root t s)
 root_bounds t s b room =
-    record {
-      slots = b.slots;
-      pins = b.pins;
-      names = b.names;
-      sections = b.sections;
-      bound = b.bound;
-      roots = length-set t.roots t.added s ∙ b.roots;
-      added = omega arith;
-    }
+    let roots : length (t.roots.items ++ s ∷ []) ≤ 64 = omega (arith, length_push t.roots.items s) in
+    record { slots = b.slots; pins = b.pins; binds = b.binds; roots = roots }
 
 -- a sweep and a fold
 
@@ -315,8 +290,8 @@ shut_told g v t r c t' rest drawn bound added closed slots =
     step_told g v t r c t'
     (ap (drawn_from g) rest ∙ (drawn_shut g t t'.slots ∙ sym (drawn ∙ told_drawn g t)))
     slots
-    (ap (λ (x : Ledger). first x.names x.bound) rest ∙ sym (bound ∙ told_bound g t))
-    (ap (λ (x : Ledger). x.added) rest ∙ sym (added ∙ told_added g t))
+    (ap (λ (x : Ledger). bound_names x) rest ∙ sym (bound ∙ told_bound g t))
+    (ap (λ (x : Ledger). array_vec_len x.roots) rest ∙ sym (added ∙ told_added g t))
     (ap (λ (x : Ledger). x.closed) rest ∙ sym closed)
 
 pub shut_bounds :
@@ -329,14 +304,11 @@ shut_bounds {f} {p} {q} {n} {t} {t'} few b s =
           ap (λ (xs : List Slot). length xs) s.turned.list ∙
           (slots_length f n t.slots.list (omega (arith, b.slots)) ∙ b.slots);
       pins = b.pins;
-      names = b.names;
-      sections = b.sections;
-      bound = b.bound;
+      binds = b.binds;
       roots = b.roots;
-      added = b.added;
     })
 
-module _ (g : Graph) (v : Valid g) (t : Ledger) (r : Reachable g t) where
+module _ (g : Graph) (v : Valid g) (t : Ledger) where
   -- the sections that are present and reached in the pile, and the representatives
   abbrev pub there : List Bool
   there = table (present (told g t).graph) 1024
@@ -348,7 +320,7 @@ module _ (g : Graph) (v : Valid g) (t : Ledger) (r : Reachable g t) where
   class = table (rep (told g t).graph) 1024
 
   pub few : count_of (told g t).graph ≤ 1024
-  few = (told_tells g v t r).valid.few
+  few = omega (arith, told_count g t, v.few)
 
   there_at : (s : ℕ) → s < count_of (told g t).graph → get_or there s false ≡ present (told g t).graph s
   there_at s h = table_at (present (told g t).graph) 1024 s false (omega (arith, few))
@@ -361,8 +333,9 @@ module _ (g : Graph) (v : Valid g) (t : Ledger) (r : Reachable g t) where
 
   module _ (t' : Ledger) (a b : ℕ) where
     pub told_sweep :
+        Reachable g t →
         Shut (dropped_slot there marks) (stays there marks) (drops there marks) (count_of (told g t).graph) t t' a b → told g t' ≡ step (told g t) Sweep
-    told_sweep s =
+    told_sweep r s =
         shut_told g v t r Sweep t' s.rest refl refl refl refl
         (s.turned.list ∙
         (rule_same (dropped_slot there marks) (swept_slot (told g t).graph) (count_of (told g t).graph) t.slots.list
@@ -392,8 +365,9 @@ module _ (g : Graph) (v : Valid g) (t : Ledger) (r : Reachable g t) where
         λ i. Dropped (left i) (gone i)
 
     pub told_fold :
+        Reachable g t →
         Shut (joined_slot there class) (leads there class) (joins there class) (count_of (told g t).graph) t t' a b → told g t' ≡ step (told g t) Fold
-    told_fold s =
+    told_fold r s =
         shut_told g v t r Fold t' s.rest refl refl refl refl
         (s.turned.list ∙
         (rule_same (joined_slot there class) (folded_slot (told g t).graph) (count_of (told g t).graph) t.slots.list

@@ -1,6 +1,7 @@
 -- What a pile answers, from the inner table and the answers of the graph below.
-use Rattle.std.specs.Prelude.{ℕ, ◌+◌, ◌-◌, Bool, cond, not, ◌||◌, List, Some, None, Ok, Err, Option, Result, ◌==◌, nat_le, nat_lt, slice_index}
+use Rattle.std.specs.Prelude.{ℕ, ◌+◌, ◌-◌, Bool, cond, not, ◌||◌, Some, None, Ok, Err, Option, Result, find, ◌==◌, nat_le, nat_lt, slice_get}
 use Rattle.std.specs.Option.{option_map}
+use Rattle.arrayvec.specs.ArrayVec.{array_vec_len}
 use Rattle.fault.specs.declared.Fault.{Fault}
 use Rattle.model.specs.declared.Target.{Target}
 use Rattle.model.specs.declared.Relocation.{Relocation}
@@ -14,7 +15,7 @@ use Rattle.runs.specs.State.{slot_of, found_at, check, closed_fault, no_section,
 use Rattle.runs.specs.Seen.{found_number}
 use Rattle.slots.specs.Turns.{untouched}
 use Rattle.ledger.specs.declared.Ledger.{Ledger}
-use Rattle.ledger.specs.Told.{bound_by, first, pinned}
+use Rattle.ledger.specs.Told.{bound_by, bound_names, pinned}
 
 -- section s is untouched
 abbrev pub stands : Ledger → ℕ → Bool
@@ -35,7 +36,7 @@ seen_relocation t s r = cond (stands t s) (option_map (aimed_at (seen_target t))
 
 -- added root j
 abbrev pub added_root : Ledger → ℕ → Option ℕ
-added_root t j = cond (nat_lt j t.added) (Some (found_number t.slots.list (slice_index t.roots j))) None
+added_root t j = option_map (found_number t.slots.list) (slice_get t.roots.items j)
 
 -- root j, where the graph below has n roots and answers x
 abbrev pub seen_root : Ledger → ℕ → ℕ → Option ℕ → Option ℕ
@@ -47,16 +48,16 @@ abbrev pub placed : Ledger → ℕ → Bool → ℕ → Result Place Fault
 placed t n there s =
     cond (nat_lt s n) (Ok (cond there (found_at t.slots.list s) Absent)) (Err (no_section s))
 
--- bind k is of name e
-abbrev pub named : List ℕ → ℕ → ℕ → Bool
-named names e k = slice_index names k == e
+-- the section that name e stands for, if it was bound
+abbrev pub section_bound : Ledger → ℕ → Option ℕ
+section_bound t e = option_map (λ b. b.section) (find (λ b. b.name == e) t.binds.items)
 
 -- why a bind of name e to section s is refused, if it is
 abbrev pub bind_refused : Ledger → Bool → ℕ → ℕ → Option Fault
 bind_refused t there e s =
     check t.closed closed_fault
     (check (not there) (no_section s)
-    (check (has (first t.names t.bound) e) (bound_before e) (check (nat_le 64 t.bound) full None)))
+    (check (has (bound_names t) e) (bound_before e) (check (nat_le 64 (array_vec_len t.binds)) full None)))
 
 -- a pin of section s
 abbrev pub pin_refused : Ledger → Bool → ℕ → Option Fault
@@ -66,4 +67,9 @@ pin_refused t there s = check t.closed closed_fault (check (not there) (no_secti
 abbrev pub root_refused : Ledger → Bool → ℕ → ℕ → Option Fault
 root_refused t there n s =
     check t.closed closed_fault
-    (check (not there) (no_section s) (check (nat_le 64 t.added || nat_le 4096 (n + t.added)) full None))
+    (check (not there) (no_section s) (check (nat_le 64 (array_vec_len t.roots) || nat_le 4096 (n + array_vec_len t.roots)) full None))
+
+-- the result that a refusal is
+abbrev pub unless_refused : Option Fault → Result (Unit {0}) Fault
+unless_refused None = Ok tt
+unless_refused (Some f) = Err f

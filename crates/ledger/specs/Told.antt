@@ -1,6 +1,7 @@
 -- The state of a pile, from the graph below and the inner table.
-use Rattle.std.specs.Prelude.{◌≡◌, ℕ, zero, suc, Bool, false, cond, List, [], ◌∷◌, ◌++◌, Option, slice_index, slice_index_or}
+use Rattle.std.specs.Prelude.{◌≡◌, ℕ, Bool, false, cond, List, [], ◌∷◌, ◌++◌, map, Option, slice_index_or}
 use Rattle.std.specs.Option.{option_map}
+use Rattle.arrayvec.specs.ArrayVec.{array_vec_len}
 use Rattle.model.specs.declared.Target.{Target}
 use Rattle.model.specs.Graph.{Body, Graph}
 use Rattle.unfolding.specs.Groups.{aimed, rebuilt}
@@ -9,22 +10,21 @@ use Rattle.runs.specs.Drawn.{bound_target, as_pinned}
 use Rattle.runs.specs.State.{State, after}
 use Rattle.runs.specs.Seen.{seen_through}
 use Rattle.runs.specs.Promise.{Promise}
+use Rattle.ledger.specs.declared.Bind.{Bind}
 use Rattle.ledger.specs.declared.Ledger.{Ledger}
 use Rattle.ledger.specs.Edits.{Bounds}
 
--- a target after the first k binds, one after the other
-abbrev pub bound_first : List ℕ → List ℕ → ℕ → Target → Target
-bound_first names sections zero x = x
-bound_first names sections (suc k) x =
-    bound_target (slice_index names k) (slice_index sections k) (bound_first names sections k x)
+-- a target after these binds, one after the other
+abbrev pub bound_by_all : List Bind → Target → Target
+bound_by_all [] x = x
+bound_by_all (b ∷ bs) x = bound_by_all bs (bound_target b.name b.section x)
 
 abbrev pub bound_by : Ledger → Target → Target
-bound_by t x = bound_first t.names t.sections t.bound x
+bound_by t x = bound_by_all t.binds.items x
 
--- the first k of a list
-abbrev pub first : List ℕ → ℕ → List ℕ
-first xs zero = []
-first xs (suc k) = first xs k ++ slice_index xs k ∷ []
+-- the names that were bound, in order
+abbrev pub bound_names : Ledger → List ℕ
+bound_names t = map (λ b. b.name) t.binds.items
 
 -- section s was pinned by a call
 abbrev pub pinned : Ledger → ℕ → Bool
@@ -37,7 +37,7 @@ drawn_section t s b = option_map (aimed (bound_by t)) (cond (pinned t s) (option
 -- the drawn graph: the graph below with what was pinned, bound and rooted
 unfoldable pub drawn_from : Graph → Ledger → Graph
 drawn_from g t =
-    record { sections = rebuilt (drawn_section t) g; roots = g.roots ++ first t.roots t.added }
+    record { sections = rebuilt (drawn_section t) g; roots = g.roots ++ t.roots.items }
 
 -- the state: the pile's graph is the drawn graph seen through the slots
 unfoldable pub told : Graph → Ledger → State
@@ -46,8 +46,8 @@ told g t =
       drawn = drawn_from g t;
       graph = seen_through t.slots.list (drawn_from g t);
       slots = t.slots.list;
-      bound = first t.names t.bound;
-      added = t.added;
+      bound = bound_names t;
+      added = array_vec_len t.roots;
       closed = t.closed;
     }
 

@@ -4,21 +4,28 @@
 #![tactic(auto)]
 
 ghost use Rattle.std.specs.Prelude.{◌≡◌, ◌<◌, ◌≤◌};
-ghost use Rattle.std.specs.Option.{option_map};
-ghost use Rattle.steps.specs.Below.{least_below};
+ghost use Rattle.arrayvec.specs.ArrayVec.{array_vec_len};
 ghost use Rattle.unfolding.specs.Groups.{aimed_at};
 ghost use Rattle.unfolding.specs.Reach.{has};
 ghost use Rattle.runs.specs.Laws.{pinned_record};
 ghost use Rattle.runs.specs.State.{fault_at};
 ghost use Rattle.slots.specs.Turns.{stays, drops, dropped_slot, leads, joins, joined_slot};
-ghost use Rattle.ledger.specs.Edits.{fresh, Bounds, with_bind, with_pin, with_root, Shut};
-ghost use Rattle.ledger.specs.Told.{bound_by, first, pinned};
-ghost use Rattle.ledger.specs.Answers.{stands, seen_record, seen_byte, seen_target, seen_relocation, added_root, seen_root, placed, named, bind_refused, pin_refused, root_refused};
+ghost use Rattle.ledger.specs.Edits.{fresh, with_bind, with_pin, with_root, Shut};
+ghost use Rattle.ledger.specs.Told.{bound_by, bound_names, pinned};
+ghost use Rattle.ledger.specs.Answers.{stands, seen_record, seen_byte, seen_target, seen_relocation, added_root, seen_root, placed, section_bound, bind_refused, pin_refused, root_refused, unless_refused};
 
+use arrayvec::ArrayVec;
 use calls::Place;
 use fault::{Fault, Kind, Layer};
 use model::{Record, Relocation, Setting, Target};
 use slots::Slots;
+
+// An outside name that was bound, and the section that it stands for.
+#[derive(Clone, Copy, PartialEq, Eq, Debug, Default)]
+pub struct Bind {
+    pub name: u16,
+    pub section: u16,
+}
 
 // What a pile keeps beside the graph below.
 #[derive(Drop)]
@@ -27,13 +34,10 @@ pub struct Ledger {
     pub slots: Slots,
     // the sections that were pinned
     pub pins: [bool; 1024],
-    // the outside names that were bound and the section that each stands for: the first `bound` of both
-    pub names: [u16; 64],
-    pub sections: [u16; 64],
-    pub bound: u16,
-    // the roots that were added: the first `added`
-    pub roots: [u16; 64],
-    pub added: u16,
+    // the outside names that were bound, in order
+    pub binds: ArrayVec<Bind, 64>,
+    // the roots that were added, in order
+    pub roots: ArrayVec<u16, 64>,
     // a sweep or a fold was done
     pub closed: bool,
 }
@@ -42,26 +46,16 @@ pub struct Ledger {
 fn refused(kind: Kind, place: u64) -> Fault
     ensures { result ≡ fault_at kind place }
 {
-    Fault {
-        kind,
-        place,
-        layer: Layer::Pile,
-    }
+    Fault::new(kind, place, Layer::Pile)
 }
 
 // The record of a section that was pinned.
-fn as_pinned(told: Option<Record>) -> Option<Record>
-    ensures { result ≡ option_map pinned_record told }
+fn as_pinned(told: Record) -> Record
+    ensures { result ≡ pinned_record told }
 {
-    match told {
-        Some(x) => Some(Record {
-            flags: x.flags,
-            alignment: x.alignment,
-            size: x.size,
-            relocations: x.relocations,
-            setting: Setting::Pinned,
-        }),
-        None => None,
+    Record {
+        setting: Setting::Pinned,
+        ..told
     }
 }
 
@@ -73,51 +67,39 @@ impl Ledger {
         Ledger {
             slots: Slots::new(),
             pins: [false; 1024],
-            names: [0; 64],
-            sections: [0; 64],
-            bound: 0,
-            roots: [0; 64],
-            added: 0,
+            binds: ArrayVec::new(),
+            roots: ArrayVec::new(),
             closed: false,
         }
     }
 
     // Name `name` stands for section `section` from now on.
     pub fn bind(&mut self, name: u16, section: u16)
-        requires bounds { Bounds self.old }
-        requires room { self.old.bound < 64 }
+        requires { array_vec_len self.old.binds < 64 }
         ensures { self.new ≡ with_bind self.old name section }
     {
-        let at = self.bound;
-        self.names[at as usize] = name;
-        self.sections[at as usize] = section;
-        self.bound = at + 1;
+        self.binds.push(Bind { name, section });
     }
 
     // Section `s` is pinned.
     pub fn pin(&mut self, s: u16)
-        requires bounds { Bounds self.old }
-        requires small { s < 1024 }
+        requires { s < 1024 }
         ensures { self.new ≡ with_pin self.old s }
     {
-        self.pins[s as usize] = true;
+        self.pins[usize::from(s)] = true;
     }
 
     // Section `section` is one more root.
     pub fn add_root(&mut self, section: u16)
-        requires bounds { Bounds self.old }
-        requires room { self.old.added < 64 }
+        requires { array_vec_len self.old.roots < 64 }
         ensures { self.new ≡ with_root self.old section }
     {
-        let at = self.added;
-        self.roots[at as usize] = section;
-        self.added = at + 1;
+        self.roots.push(section);
     }
 
     // Sweeps the sections below `n` that are there and not reached, and closes: how many are left, and how many were swept.
     pub fn sweep(&mut self, there: &[bool; 1024], reached: &[bool; 1024], n: u16) -> (u16, u16)
-        requires bounds { Bounds self.old }
-        requires small { n ≤ 1024 }
+        requires { n ≤ 1024 }
         ensures { Shut (dropped_slot there.now reached.now) (stays there.now reached.now) (drops there.now reached.now) n self.old self.new result.0 result.1 }
     {
         let counts = self.slots.sweep(there, reached, n);
@@ -128,8 +110,7 @@ impl Ledger {
     // Folds each section below `n` that is there into the one that leads its class, and closes: how many are left, and how many were
     // folded.
     pub fn fold(&mut self, there: &[bool; 1024], class: &[u16; 1024], n: u16) -> (u16, u16)
-        requires bounds { Bounds self.old }
-        requires small { n ≤ 1024 }
+        requires { n ≤ 1024 }
         ensures { Shut (joined_slot there.now class.now) (leads there.now class.now) (joins there.now class.now) n self.old self.new result.0 result.1 }
     {
         let counts = self.slots.fold(there, class, n);
@@ -139,58 +120,40 @@ impl Ledger {
 
     // Whether section `s` was pinned.
     fn is_pinned(&self, s: u16) -> bool
-        requires { Bounds self.now }
         ensures { result ≡ pinned self.now s }
     {
-        if s < 1024 {
-            self.pins[s as usize]
-        } else {
-            false
-        }
+        self.pins.get(usize::from(s)).copied().unwrap_or(false)
     }
 
-    // Where the bind of `name` is among the binds: `bound` if there is none.
-    fn position(&self, name: u16) -> u16
-        requires { Bounds self.now }
-        ensures { result ≡ least_below (named self.now.names name) self.now.bound }
+    // The section that `name` stands for, if it was bound.
+    fn section_bound(&self, name: u16) -> Option<u16>
+        ensures { result ≡ section_bound self.now name }
     {
-        for k in 0..self.bound {
-            if self.names[k as usize] == name {
-                return k;
-            }
-        }
-        self.bound
+        self.binds
+            .iter()
+            .find(|bind| bind.name == name)
+            .map(|bind| bind.section)
     }
 
     // Whether `name` was bound.
     fn is_bound(&self, name: u16) -> bool
-        requires { Bounds self.now }
-        ensures { result ≡ has (first self.now.names self.now.bound) name }
+        ensures { result ≡ has (bound_names self.now) name }
     {
-        self.position(name) < self.bound
+        self.section_bound(name).is_some()
     }
 
     // What a target of the graph below is after the binds.
     fn bound_target(&self, target: Target) -> Target
-        requires { Bounds self.now }
         ensures { result ≡ bound_by self.now target }
     {
         match target {
-            Target::Section(t) => Target::Section(t),
-            Target::Outside(e) => {
-                let k = self.position(e);
-                if k < self.bound {
-                    Target::Section(self.sections[k as usize])
-                } else {
-                    Target::Outside(e)
-                }
-            }
+            Target::Section(_) => target,
+            Target::Outside(e) => self.section_bound(e).map_or(target, Target::Section),
         }
     }
 
     // And where it goes by the slots.
     fn target(&self, target: Target) -> Target
-        requires { Bounds self.now }
         ensures { result ≡ seen_target self.now target }
     {
         match self.bound_target(target) {
@@ -201,27 +164,23 @@ impl Ledger {
 
     // A relocation with its target put there: nothing else changes.
     fn aim(&self, told: Relocation) -> Relocation
-        requires { Bounds self.now }
         ensures { result ≡ aimed_at (seen_target self.now) told }
     {
         Relocation {
-            offset: told.offset,
-            kind: told.kind,
             target: self.target(told.target),
-            displacement: told.displacement,
+            ..told
         }
     }
 
     // The record of section `s`, from that of the graph below.
     pub fn record(&self, s: u16, told: Option<Record>) -> Option<Record>
-        requires { Bounds self.now }
         ensures { result ≡ seen_record self.now s told }
     {
         if !self.slots.is_untouched(s) {
             return None;
         }
         if self.is_pinned(s) {
-            as_pinned(told)
+            told.map(as_pinned)
         } else {
             told
         }
@@ -229,7 +188,6 @@ impl Ledger {
 
     // A byte of section `s`.
     pub fn byte(&self, s: u16, told: Option<u8>) -> Option<u8>
-        requires { Bounds self.now }
         ensures { result ≡ seen_byte self.now s told }
     {
         if self.slots.is_untouched(s) {
@@ -241,102 +199,82 @@ impl Ledger {
 
     // A relocation of section `s`.
     pub fn relocation(&self, s: u16, told: Option<Relocation>) -> Option<Relocation>
-        requires { Bounds self.now }
         ensures { result ≡ seen_relocation self.now s told }
     {
         if !self.slots.is_untouched(s) {
             return None;
         }
-        match told {
-            Some(x) => Some(self.aim(x)),
-            None => None,
-        }
+        told.map(|x| self.aim(x))
     }
 
     // Added root `j`.
     fn added_root(&self, j: u16) -> Option<u16>
-        requires { Bounds self.now }
         ensures { result ≡ added_root self.now j }
     {
-        if j < self.added {
-            Some(self.slots.number(self.roots[j as usize]))
-        } else {
-            None
-        }
+        self.roots
+            .get(usize::from(j))
+            .map(|s| self.slots.number(*s))
     }
 
     // Root `j`, where the graph below has `n` roots and answers `told`.
     pub fn root(&self, n: u16, j: u16, told: Option<u16>) -> Option<u16>
-        requires { Bounds self.now }
         ensures { result ≡ seen_root self.now n j told }
     {
         match told {
             Some(s) => Some(self.slots.number(s)),
-            None => { if n <= j { self.added_root(j - n) } else { None } }
+            None => self.added_root(j.checked_sub(n)?),
         }
     }
 
     // The place of section `s`, where the graph below has `n` sections and `there` says whether it is present there.
     pub fn place(&self, n: u16, there: bool, s: u16) -> Result<Place, Fault>
-        requires { Bounds self.now }
         ensures { result ≡ placed self.now n there s }
     {
         if s >= n {
-            return Err(refused(Kind::NoSection, s as u64));
+            return Err(refused(Kind::NoSection, u64::from(s)));
         }
-        if there {
-            Ok(self.slots.found(s))
+        Ok(if there {
+            self.slots.found(s)
         } else {
-            Ok(Place::Absent)
-        }
+            Place::Absent
+        })
     }
 
-    // Why a bind is refused, if it is; `there` says whether the section is present.
-    pub fn bind_refusal(&self, there: bool, name: u16, section: u16) -> Option<Fault>
-        requires { Bounds self.now }
-        ensures { result ≡ bind_refused self.now there name section }
+    // Whether a bind is refused, and why; `there` says whether the section is present.
+    pub fn check_bind(&self, there: bool, name: u16, section: u16) -> Result<(), Fault>
+        ensures { result ≡ unless_refused (bind_refused self.now there name section) }
     {
-        if self.closed {
-            return Some(refused(Kind::Closed, 0));
-        }
-        if !there {
-            return Some(refused(Kind::NoSection, section as u64));
-        }
+        self.check_pin(there, section)?;
         if self.is_bound(name) {
-            return Some(refused(Kind::Bound, name as u64));
+            return Err(refused(Kind::Bound, u64::from(name)));
         }
-        if self.bound >= 64 {
-            return Some(refused(Kind::Full, 0));
+        if self.binds.is_full() {
+            return Err(refused(Kind::Full, 0));
         }
-        None
+        Ok(())
     }
 
-    // Why a pin is refused, if it is.
-    pub fn pin_refusal(&self, there: bool, section: u16) -> Option<Fault>
-        ensures { result ≡ pin_refused self.now there section }
+    // Whether a pin is refused, and why.
+    pub fn check_pin(&self, there: bool, section: u16) -> Result<(), Fault>
+        ensures { result ≡ unless_refused (pin_refused self.now there section) }
     {
         if self.closed {
-            return Some(refused(Kind::Closed, 0));
+            return Err(refused(Kind::Closed, 0));
         }
         if !there {
-            return Some(refused(Kind::NoSection, section as u64));
+            return Err(refused(Kind::NoSection, u64::from(section)));
         }
-        None
+        Ok(())
     }
 
-    // Why a root is refused, if it is; the graph below has `n` roots.
-    pub fn root_refusal(&self, there: bool, n: u16, section: u16) -> Option<Fault>
-        ensures { result ≡ root_refused self.now there n section }
+    // Whether a root is refused, and why; the graph below has `n` roots.
+    pub fn check_root(&self, there: bool, n: u16, section: u16) -> Result<(), Fault>
+        ensures { result ≡ unless_refused (root_refused self.now there n section) }
     {
-        if self.closed {
-            return Some(refused(Kind::Closed, 0));
+        self.check_pin(there, section)?;
+        if self.roots.is_full() || usize::from(n) + self.roots.len() >= 4096 {
+            return Err(refused(Kind::Full, 0));
         }
-        if !there {
-            return Some(refused(Kind::NoSection, section as u64));
-        }
-        if self.added >= 64 || n as u32 + self.added as u32 >= 4096 {
-            return Some(refused(Kind::Full, 0));
-        }
-        None
+        Ok(())
     }
 }

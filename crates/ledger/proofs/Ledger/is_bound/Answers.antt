@@ -1,8 +1,8 @@
-use Rattle.std.proofs.Common.{ℕ, ltb, sym, ap, ◌∙◌}
-use Rattle.ledger.proofs.Binds.{has_first}
+use Rattle.std.proofs.Common.{ℕ, is_some, Option, ap, ◌∙◌}
+use Rattle.ledger.proofs.Binds.{has_names}
 use Rattle.ledger.proofs.Ledger.is_bound.Goals as goal
 
 pub returns : goal.returns
 returns c =
-    ap (λ (m : ℕ). ltb m c.args.self.now.bound) c.position.ensures ∙
-    sym (has_first c.args.self.now.names c.args.name c.args.self.now.bound)
+    c.is_some.ensures ∙
+    (ap (λ (o : Option ℕ). is_some o) c.section_bound.ensures ∙ has_names c.args.self.now.binds.items c.args.name)

@@ -3,15 +3,14 @@ use Rattle.ledger.proofs.Ledger.new.Goals as goal
 
 pub returns : goal.returns
 returns c =
-    let e = c.new.ensures in
+    let slots = c.new.ensures in
+    let binds = c.new-2.ensures in
+    let roots = c.new-3.ensures in
     λ i.
     record {
-      slots = e i;
+      slots = slots i;
       pins = replicate 1024 false;
-      names = replicate 64 0;
-      sections = replicate 64 0;
-      bound = 0;
-      roots = replicate 64 0;
-      added = 0;
+      binds = record { items = binds i };
+      roots = record { items = roots i };
       closed = false;
     }
