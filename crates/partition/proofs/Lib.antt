@@ -1,4 +1,4 @@
 mod Search
-mod Base
+mod Leaders
 mod Next
 mod Turns

@@ -18,8 +18,9 @@ use Rattle.unfolding.proofs.Theorems.{marks_tell}
 use Rattle.content.specs.Core.{Core, core_of}
 use Rattle.content.specs.Aims.{relocations_in, class_in, same_aim}
 use Rattle.content.proofs.Arms.{arms_join, arms_split}
-use Rattle.partition.specs.Classes.{Found, Bases, class_at, Classed, Classes, joined}
-use Rattle.partition.proofs.Base.{base_same, base_shares}
+use Rattle.partition.specs.declared.Base.{Base}
+use Rattle.partition.specs.Classes.{Found, base_in, same_base, Bases, class_at, Classed, Classes, joined}
+use Rattle.partition.proofs.Leaders.{base_same, base_shares}
 
 arms_are : (o : Option Body) → arms_in o ≡ map arm (relocations_in o)
 arms_are None = refl
@@ -126,13 +127,13 @@ module _ (g : Graph) (v : Valid g) (k : ℕ) (cs : List ℕ) (c : Classes g k cs
 
   -- what the search of a round finds is the class at depth k + 1
   pub round_class :
-      (base new : List ℕ) (s m : ℕ) →
-      Bases g base →
+      (bases : List (Option Base)) (new : List ℕ) (s m : ℕ) →
+      Bases g bases →
       Classed g (suc k) new s →
       s < 1024 →
-      Found (joined g base cs new s) (get_or cs s 0) s m →
+      Found (joined g bases cs new s) (get_or cs s 0) s m →
       m ≡ class_at g (suc k) s
-  round_class base new s m b below l f = ⊎_elim inside outside (cases_lt m s)
+  round_class bases new s m b below l f = ⊎_elim inside outside (cases_lt m s)
     where
       old : (t : ℕ) → t < 1024 → get_or cs t 0 ≡ class_at g k t
       old = c.at
@@ -143,35 +144,35 @@ module _ (g : Graph) (v : Valid g) (k : ℕ) (cs : List ℕ) (c : Classes g k cs
           tests :
               (eqb (get_or new m 0) m ≡ true) ×
               ((eqb (get_or cs m 0) (get_or cs s 0) &&
-              (eqb (get_or base m 0) (get_or base s 0) &&
+              (same_base (base_in bases m) (base_in bases s) &&
               same_list (same_aim cs) (relocations_in (section_of g m)) (relocations_in (section_of g s)))) ≡
               true)
           tests =
               and_parts
               (eqb (get_or new m 0) m)
               (eqb (get_or cs m 0) (get_or cs s 0) &&
-              (eqb (get_or base m 0) (get_or base s 0) &&
+              (same_base (base_in bases m) (base_in bases s) &&
               same_list (same_aim cs) (relocations_in (section_of g m)) (relocations_in (section_of g s))))
               (f.found lt)
 
           more :
               (eqb (get_or cs m 0) (get_or cs s 0) ≡ true) ×
-              ((eqb (get_or base m 0) (get_or base s 0) &&
+              ((same_base (base_in bases m) (base_in bases s) &&
               same_list (same_aim cs) (relocations_in (section_of g m)) (relocations_in (section_of g s))) ≡
               true)
           more =
               and_parts
               (eqb (get_or cs m 0) (get_or cs s 0))
-              (eqb (get_or base m 0) (get_or base s 0) &&
+              (same_base (base_in bases m) (base_in bases s) &&
               same_list (same_aim cs) (relocations_in (section_of g m)) (relocations_in (section_of g s)))
               tests.1
 
           rest :
-              (eqb (get_or base m 0) (get_or base s 0) ≡ true) ×
+              (same_base (base_in bases m) (base_in bases s) ≡ true) ×
               (same_list (same_aim cs) (relocations_in (section_of g m)) (relocations_in (section_of g s)) ≡ true)
           rest =
               and_parts
-              (eqb (get_or base m 0) (get_or base s 0))
+              (same_base (base_in bases m) (base_in bases s))
               (same_list (same_aim cs) (relocations_in (section_of g m)) (relocations_in (section_of g s)))
               more.1
 
@@ -210,7 +211,7 @@ module _ (g : Graph) (v : Valid g) (k : ℕ) (cs : List ℕ) (c : Classes g k cs
           cores : core_of (section_of g m) ≡ core_of (section_of g s)
           cores =
               base_shares g m s fold_m fold_s
-              (sym (b.at m (omega arith)) ∙ (eqb-true (get_or base m 0) (get_or base s 0) rest.0 ∙ b.at s l))
+              (rw (b.at m (omega arith), b.at s l) at rest.0)
 
       outside : s ≤ m → m ≡ class_at g (suc k) s
       outside le = ⊎_elim group single (cases_Bool (foldable g s))
@@ -239,23 +240,22 @@ module _ (g : Graph) (v : Valid g) (k : ℕ) (cs : List ℕ) (c : Classes g k cs
                   let parts = next_agree n s agree in
                   absurd
                   (both_ways
-                  (joined g base cs new s n)
+                  (joined g bases cs new s n)
                   (f.before n (omega arith) (omega arith))
                   (and_from
                   (eqb (get_or new n 0) n)
                   (eqb (get_or cs n 0) (get_or cs s 0) &&
-                  (eqb (get_or base n 0) (get_or base s 0) &&
+                  (same_base (base_in bases n) (base_in bases s) &&
                   same_list (same_aim cs) (relocations_in (section_of g n)) (relocations_in (section_of g s))))
                   (eq-eqb (get_or new n 0) n (below n lt ∙ class_class rules lawful_rules g (suc k) s))
                   (and_from
                   (eqb (get_or cs n 0) (get_or cs s 0))
-                  (eqb (get_or base n 0) (get_or base s 0) &&
+                  (same_base (base_in bases n) (base_in bases s) &&
                   same_list (same_aim cs) (relocations_in (section_of g n)) (relocations_in (section_of g s)))
                   (eq-eqb (get_or cs n 0) (get_or cs s 0)
                   (old n (omega arith) ∙ (class_same rules lawful_rules g k n s fold h less ∙ sym (old s l))))
                   (and_from
-                  (eqb (get_or base n 0) (get_or base s 0))
+                  (same_base (base_in bases n) (base_in bases s))
                   (same_list (same_aim cs) (relocations_in (section_of g n)) (relocations_in (section_of g s)))
-                  (eq-eqb (get_or base n 0) (get_or base s 0)
-                  (b.at n (omega arith) ∙ (base_same g n s fold h parts.0 ∙ sym (b.at s l))))
+                  (rw (b.at n (omega arith), b.at s l) (base_same g n s fold h parts.0))
                   parts.1))))

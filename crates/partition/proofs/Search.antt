@@ -1,27 +1,29 @@
--- A search from a number on, one number after the other.
-use Rattle.std.proofs.Common.{◌≡◌, ℕ, ◌+◌, ◌<◌, ◌≤◌, Bool, true, false, subst, ⊎_elim, arith}
-use Rattle.std.proofs.lemmas.Bool.{cases_lt}
-use Rattle.partition.specs.Classes.{Found}
+-- What a search from a number on finds.
+use Rattle.std.proofs.Common.{◌≡◌, ℕ, ◌<◌, ◌≤◌, Bool, true, false, Some, None, Option, MatchOption, unwrap_or, sym, arith}
+use Rattle.partition.specs.Classes.{Found, Finds}
 
--- none from `low` on and below n passes
-abbrev pub Unmet : (ℕ → Bool) → ℕ → ℕ → Type 0
-Unmet p low n = (t : ℕ) → low ≤ t → t < n → p t ≡ false
+pub finds_lowest :
+    (gives : ℕ → Bool → Type 0) (low n : ℕ) (r : Option ℕ) →
+    MatchOption r ((t : ℕ) → low ≤ t → t < n → gives t false)
+    (λ m. (low ≤ m) × (m < n) × gives m true × ((t : ℕ) → low ≤ t → t < m → gives t false)) →
+    Finds gives low n (unwrap_or r n)
+finds_lowest gives low n None h =
+    record { from = λ k. k; before = h; found = λ k. absurd (omega arith); bounded = omega arith }
+finds_lowest gives low n (Some m) h =
+    let below = h.1 in
+    record { from = λ _. h.0; before = h.3; found = λ _. (h.0, h.2); bounded = omega arith }
 
-pub unmet_start : (p : ℕ → Bool) (low : ℕ) → Unmet p low low
-unmet_start p low t l k = absurd (omega arith)
-
-pub unmet_more : (p : ℕ → Bool) (low n : ℕ) → Unmet p low n → p n ≡ false → Unmet p low (n + 1)
-unmet_more p low n h e t l k =
-    ⊎_elim
-    (λ lt. h t l lt)
-    (λ le.
-    let at : n ≡ t = omega arith in
-    subst (λ (x : ℕ). p x ≡ false) at e)
-    (cases_lt t n)
-
-pub found_here : (p : ℕ → Bool) (low n m : ℕ) → Unmet p low m → low ≤ m → m < n → p m ≡ true → Found p low n m
-found_here p low n m h l k e = record { from = λ _. l; before = h; found = λ _. e; bounded = omega arith }
-
-pub found_none : (p : ℕ → Bool) (low n m : ℕ) → Unmet p low m → n ≤ m → Found p low n n
-found_none p low n m h l =
-    record { from = λ k. k; before = λ t k j. h t k (omega arith); found = λ k. absurd (omega arith); bounded = omega arith }
+-- where what is given is the test's answer
+pub found_from :
+    (p : ℕ → Bool) (gives : ℕ → Bool → Type 0) (low n m : ℕ) →
+    ((t : ℕ) (b : Bool) → low ≤ t → t < n → gives t b → b ≡ p t) →
+    Finds gives low n m →
+    Found p low n m
+found_from p gives low n m computes f =
+    let top = f.bounded in
+    record {
+      from = f.from;
+      before = λ t l k. sym (computes t false l (omega arith) (f.before t l k));
+      found = λ k. sym (computes m true (f.found k).0 k (f.found k).1);
+      bounded = f.bounded;
+    }

@@ -1,7 +1,7 @@
 -- Round after round, until nothing changes.
-use Rattle.std.proofs.Common.{◌≡◌, ℕ, suc, ◌+◌, ◌<◌, ◌≤◌, true, false, List, length, get_or, set, replicate, sym, refl, ◌∙◌, subst, ⊎_elim, add-one, arith}
+use Rattle.std.proofs.Common.{◌≡◌, ℕ, suc, ◌+◌, ◌<◌, ◌≤◌, true, false, List, length, get_or, set, replicate, Some, None, Option, Decides, unwrap_or, sym, refl, ap, ◌∙◌, subst, ⊎_elim, add-one, arith}
 use Rattle.std.proofs.lemmas.Bool.{cases_lt, both_ways}
-use Rattle.std.proofs.lemmas.List.{get_or-set_same, get_or-set_other, length-set, length-replicate}
+use Rattle.std.proofs.lemmas.List.{get_or-set_same, get_or-set_other, length-set, length-replicate, ext_get_or}
 use Rattle.std.proofs.lemmas.List.FromFn.{fill_by_all}
 use Rattle.model.specs.Graph.{Graph, count_of}
 use Rattle.model.specs.Laws.{Valid}
@@ -11,10 +11,11 @@ use Rattle.unfolding.specs.Groups.{foldable, FoldAble}
 use Rattle.unfolding.specs.Sections.{rules, rep, rounds, Stable}
 use Rattle.unfolding.proofs.Depths.{narrows}
 use Rattle.unfolding.proofs.Marks.{fold_bound, stays_stable}
-use Rattle.unfolding.proofs.Classes.{class_itself, class_foldable, class_lowest, class_same, class_shares, class_rep, rounds_least, rounds_bounded, rounds_stable}
+use Rattle.unfolding.proofs.Classes.{class_itself, class_foldable, class_below, class_lowest, class_same, class_shares, class_rep, rounds_least, rounds_bounded, rounds_stable}
 use Rattle.unfolding.proofs.Rules.{lawful_rules}
 use Rattle.unfolding.proofs.Theorems.{marks_tell}
-use Rattle.partition.specs.Classes.{Found, Bases, class_at, Classed, Classes, joined, Refined, Same, Turn}
+use Rattle.partition.specs.declared.Base.{Base}
+use Rattle.partition.specs.Classes.{Found, Bases, class_at, Classed, Classes, joined, Refined, Turn}
 use Rattle.partition.proofs.Next.{round_class}
 
 -- tables that are filled from the first section on
@@ -49,7 +50,7 @@ filling_end g k cs n f l = record { sized = f.sized; at = λ t h. f.done t (omeg
 
 -- depth 0
 
-pub first_class : (g : Graph) (m s : ℕ) → Found (foldable g) 0 1024 m → s < 1024 → FoldAble g s → m ≡ class_at g 0 s
+first_class : (g : Graph) (m s : ℕ) → Found (foldable g) 0 1024 m → s < 1024 → FoldAble g s → m ≡ class_at g 0 s
 first_class g m s f l h =
     let low : m ≤ s = not_before s h in
     let fold : FoldAble g m = f.found (omega arith) in
@@ -64,6 +65,15 @@ first_class g m s f l h =
         (λ le. le)
         (cases_lt t m)
 
+-- the lowest foldable section is the class of each
+pub lowest_class :
+    (g : Graph) (r : Option ℕ) (s : ℕ) → Found (foldable g) 0 1024 (unwrap_or r 1024) → s < 1024 → FoldAble g s → unwrap_or r s ≡ class_at g 0 s
+lowest_class g None s f l h =
+    let at : 1024 ≡ class_at g 0 s = first_class g 1024 s f l h in
+    let top : class_at g 0 s ≤ s = class_below rules lawful_rules g 0 s in
+    absurd (omega arith)
+lowest_class g (Some m) s f l h = first_class g m s f l h
+
 pub other_class : (g : Graph) (s : ℕ) → foldable g s ≡ false → s ≡ class_at g 0 s
 other_class g s e = sym (class_itself rules lawful_rules g 0 s e)
 
@@ -73,20 +83,20 @@ abbrev pub Refining : Graph → List ℕ → List ℕ → ℕ → Type 0
 Refining g old new n = (k : ℕ) → Classes g k old → Filling g (suc k) new n
 
 pub refining_set :
-    (g : Graph) → Valid g → (base old new : List ℕ) (n m : ℕ) →
-    Bases g base →
+    (g : Graph) → Valid g → (bases : List (Option Base)) (old new : List ℕ) (n m : ℕ) →
+    Bases g bases →
     Refining g old new n →
     n < 1024 →
-    Found (joined g base old new n) (get_or old n 0) n m →
+    Found (joined g bases old new n) (get_or old n 0) n m →
     Refining g old (set new n m) (n + 1)
-refining_set g v base old new n m b r l f k c =
+refining_set g v bases old new n m b r l f k c =
     let h = r k c in
-    filling_set g (suc k) new n m h l (round_class g v k old c base new n m b h.done l f)
+    filling_set g (suc k) new n m h l (round_class g v k old c bases new n m b h.done l f)
 
 -- the end
 
 module _ (g : Graph) (k : ℕ) (old new : List ℕ) (c : Classes g k old) (d : Classes g (suc k) new) where
-  still_stable : ((s : ℕ) → s < 1024 → get_or old s 0 ≡ get_or new s 0) → Valid g → Stable g k
+  still_stable : new ≡ old → Valid g → Stable g k
   still_stable same v =
       record {
         finer =
@@ -99,19 +109,25 @@ module _ (g : Graph) (k : ℕ) (old new : List ℕ) (c : Classes g k old) (d : C
       kept : (s : ℕ) → FoldAble g s → class_at g k s ≡ class_at g (suc k) s
       kept s h =
           let low : s < 1024 = (let b = fold_bound g s h in let n = v.few in omega arith) in
-          sym (c.at s low) ∙ (same s low ∙ d.at s low)
+          sym (c.at s low) ∙ (ap (λ (xs : List ℕ). get_or xs s 0) (sym same) ∙ d.at s low)
 
-  stable_still : Stable g k → (s : ℕ) → s < 1024 → get_or old s 0 ≡ get_or new s 0
-  stable_still h s l =
-      c.at s l ∙
-      (class_rep rules lawful_rules g k s h ∙
-      (sym (class_rep rules lawful_rules g (suc k) s (stays_stable rules lawful_rules g k (suc k) h (omega arith))) ∙
-      sym (d.at s l)))
+  stable_still : Stable g k → new ≡ old
+  stable_still h =
+      ext_get_or
+      0
+      new
+      old
+      (d.sized ∙ sym c.sized)
+      (λ s l.
+      let k' = d.sized in
+      d.at s (omega arith) ∙
+      (class_rep rules lawful_rules g (suc k) s (stays_stable rules lawful_rules g k (suc k) h (omega arith)) ∙
+      (sym (class_rep rules lawful_rules g k s h) ∙ sym (c.at s (omega arith)))))
 
 pub turn_start : (g : Graph) (cs : List ℕ) → Classes g 0 cs → Turn g 0 cs
 turn_start g cs c = record { classes = c; early = omega arith }
 
-pub turn_next : (g : Graph) (k : ℕ) (old new : List ℕ) → Turn g k old → Refined g old new → Same false old new → Turn g (k + 1) new
+pub turn_next : (g : Graph) (k : ℕ) (old new : List ℕ) → Turn g k old → Refined g old new → Decides false (new ≡ old) → Turn g (k + 1) new
 turn_next g k old new t r s =
     let next = r k t.classes in
     subst (λ (n : ℕ). Turn g n new) (sym (add-one k))
@@ -140,7 +156,7 @@ settled g k cs t h =
       rounds = let e = t.early in let f = rounds_least rules lawful_rules g k h in omega arith;
     }
 
-pub turn_last : (g : Graph) → Valid g → (k : ℕ) (old new : List ℕ) → Turn g k old → Refined g old new → Same true old new → Settled g k old
+pub turn_last : (g : Graph) → Valid g → (k : ℕ) (old new : List ℕ) → Turn g k old → Refined g old new → Decides true (new ≡ old) → Settled g k old
 turn_last g v k old new t r s =
     settled g k old t (still_stable g k old new t.classes (r k t.classes) (s.0 refl) v)
 

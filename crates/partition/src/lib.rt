@@ -2,41 +2,59 @@
 
 #![tactic(auto)]
 
-ghost use Rattle.std.specs.Prelude.{◌≡◌, ◌<◌, slice_index};
+ghost use Rattle.std.specs.Prelude.{◌≡◌, ℕ, ◌<◌, ◌≤◌, slice_index, unwrap_or};
 ghost use Rattle.model.specs.Graph.{count_of, section_of};
 ghost use Rattle.steps.specs.Below.{table};
 ghost use Rattle.unfolding.specs.Groups.{foldable};
 ghost use Rattle.unfolding.specs.Sections.{rep, rounds};
 ghost use Rattle.content.specs.Core.{core_of, digest_core};
-ghost use Rattle.partition.specs.Classes.{Found, based, Noted, joined, Bases, Classes, Refined, Same};
+ghost use Rattle.partition.specs.Classes.{Finds, Found, joined, based, base_at, Based, Bases, Classes, Refined};
 
 use content::{content_digest, may_fold, same_aims, same_content};
 use graph::SectionGraph;
 
+// The base of a foldable section, the lowest foldable one with the same content but for the sections that relocations point at, and a
+// digest of that content.
+#[derive(Clone, Copy, PartialEq, Eq, Debug)]
+struct Base {
+    leader: u16,
+    digest: u64,
+}
+
+// A round: the sections, their bases, and their classes before it.
+#[derive(Drop)]
+struct Round<'a, G: SectionGraph> {
+    graph: &'a G,
+    bases: &'a [Option<Base>; 1024],
+    old: &'a [u16; 1024],
+}
+
 // Puts into `class` for each section the lowest one that agrees with it at every depth, itself for a section that is pinned or absent,
 // and answers the rounds: the least depth that has the same groups as the next.
 pub fn partition<G: SectionGraph>(graph: &G, class: &mut [u16; 1024]) -> u16
-    requires { G.SectionGraph.sound graph.now }
     ensures classes { class.new ≡ table (rep (G.SectionGraph.graph graph.now)) 1024 }
     ensures rounds { result ≡ rounds (G.SectionGraph.graph graph.now) }
 {
-    let limit = graph.count();
-    settle(graph, class, limit)
+    *class = by_mark(graph);
+    settle(graph, &bases(graph), class, graph.count())
 }
 
-// Starts with the classes at depth 0 and goes on depth by depth, until a round changes nothing; as many rounds as there are sections are
-// enough.
-fn settle<G: SectionGraph>(graph: &G, class: &mut [u16; 1024], limit: u16) -> u16
-    requires graph { G.SectionGraph.sound graph.now }
+// Goes on from the classes at depth 0, depth by depth, until a round changes nothing; as many rounds as there are sections are enough.
+fn settle<G: SectionGraph>(
+    graph: &G,
+    bases: &[Option<Base>; 1024],
+    class: &mut [u16; 1024],
+    limit: u16,
+) -> u16
+    requires bases { Bases (G.SectionGraph.graph graph.now) bases.now }
+    requires start { Classes (G.SectionGraph.graph graph.now) 0 class.old }
     requires limit { limit ≡ count_of (G.SectionGraph.graph graph.now) }
     ensures classes { class.new ≡ table (rep (G.SectionGraph.graph graph.now)) 1024 }
     ensures rounds { result ≡ rounds (G.SectionGraph.graph graph.now) }
 {
-    let base = bases(graph);
-    *class = by_mark(graph);
     for k in 0..limit {
-        let next = refine(graph, &base, class);
-        if same(class, &next) {
+        let next = refine(graph, bases, class);
+        if next == *class {
             return k;
         }
         *class = next;
@@ -44,40 +62,38 @@ fn settle<G: SectionGraph>(graph: &G, class: &mut [u16; 1024], limit: u16) -> u1
     limit
 }
 
-// Whether two tables of classes are the same.
-fn same(a: &[u16; 1024], b: &[u16; 1024]) -> bool
-    ensures { Same result a.now b.now }
+// The lowest number from `first` on and below `end` that passes.
+fn lowest<F: Fn(u16) -> bool>(first: u16, end: u16, passes: F) -> Option<u16>
+    requires { (t : ℕ) → first ≤ t → t < end → F.pre passes t }
+    ensures { Finds (F.post passes) first end (unwrap_or result end) }
 {
-    for s in 0..1024usize {
-        if a[s] != b[s] {
-            return false;
-        }
-    }
-    true
+    (first..end).find(
+        |&t|
+            requires { F.pre passes t }
+        { passes(t) },
+    )
 }
 
-// The lowest foldable section, 1,024 if there is none.
-fn first_foldable<G: SectionGraph>(graph: &G) -> u16
-    requires { G.SectionGraph.sound graph.now }
-    ensures { Found (foldable (G.SectionGraph.graph graph.now)) 0 1024 result }
+// The lowest number from `first` on and below `end` that passes, and `end` if none does.
+fn lowest_or_end<F: Fn(u16) -> bool>(first: u16, end: u16, passes: F) -> u16
+    requires { (t : ℕ) → first ≤ t → t < end → F.pre passes t }
+    ensures { Finds (F.post passes) first end result }
 {
-    for s in 0..1024u16 {
-        if may_fold(graph, s) {
-            return s;
-        }
-    }
-    1024
+    lowest(first, end, passes).unwrap_or(end)
 }
 
 // The classes at depth 0: the foldable sections are one class.
 fn by_mark<G: SectionGraph>(graph: &G) -> [u16; 1024]
-    requires { G.SectionGraph.sound graph.now }
     ensures { Classes (G.SectionGraph.graph graph.now) 0 result }
 {
-    let first = first_foldable(graph);
+    let first = lowest(0, 1024, |s| may_fold(graph, s));
     let mut class = [0; 1024];
     for s in 0..1024u16 {
-        let lead = if may_fold(graph, s) { first } else { s };
+        let lead = if may_fold(graph, s) {
+            first.unwrap_or(s)
+        } else {
+            s
+        };
         class[s as usize] = lead;
     }
     class
@@ -86,127 +102,97 @@ fn by_mark<G: SectionGraph>(graph: &G) -> [u16; 1024]
 // Whether section `t` leads its base, and this is the base of section `s` too: unequal digests decide, equal ones do not.
 fn joins_base<G: SectionGraph>(
     graph: &G,
-    digests: &[u64; 1024],
-    base: &[u16; 1024],
+    bases: &[Option<Base>; 1024],
     digest: u64,
     s: u16,
     t: u16,
 ) -> bool
-    requires graph { G.SectionGraph.sound graph.now }
     requires low { t < s }
     requires small { s < 1024 }
-    requires noted { Noted (G.SectionGraph.graph graph.now) base.now digests.now s }
+    requires below { Based (G.SectionGraph.graph graph.now) bases.now s }
     requires digest { digest ≡ digest_core (core_of (section_of (G.SectionGraph.graph graph.now) s)) }
-    ensures { result ≡ based (G.SectionGraph.graph graph.now) base.now s t }
+    ensures { result ≡ based (G.SectionGraph.graph graph.now) bases.now s t }
 {
-    if base[t as usize] != t {
-        return false;
-    }
-    if digests[t as usize] != digest {
+    if bases[t as usize] != Some(Base { leader: t, digest }) {
         return false;
     }
     same_content(graph, t, s)
 }
 
 // The lowest section below `s` that leads the base of `s`, and `s` itself if there is none.
-fn base_leader<G: SectionGraph>(
-    graph: &G,
-    digests: &[u64; 1024],
-    base: &[u16; 1024],
-    digest: u64,
-    s: u16,
-) -> u16
-    requires graph { G.SectionGraph.sound graph.now }
+fn base_leader<G: SectionGraph>(graph: &G, bases: &[Option<Base>; 1024], digest: u64, s: u16) -> u16
     requires small { s < 1024 }
-    requires noted { Noted (G.SectionGraph.graph graph.now) base.now digests.now s }
+    requires below { Based (G.SectionGraph.graph graph.now) bases.now s }
     requires digest { digest ≡ digest_core (core_of (section_of (G.SectionGraph.graph graph.now) s)) }
-    ensures { Found (based (G.SectionGraph.graph graph.now) base.now s) 0 s result }
+    ensures { Found (based (G.SectionGraph.graph graph.now) bases.now s) 0 s result }
 {
-    for t in 0..s {
-        if joins_base(graph, digests, base, digest, s, t) {
-            return t;
-        }
-    }
-    s
+    lowest_or_end(0, s, |t| joins_base(graph, bases, digest, s, t))
 }
 
-// For each foldable section its base: the lowest foldable one with the same content but for the sections that relocations point at. 1,024
-// for any other section.
-fn bases<G: SectionGraph>(graph: &G) -> [u16; 1024]
-    requires { G.SectionGraph.sound graph.now }
+// The base of section `s` from those of the sections below it, if it is foldable.
+fn base_of<G: SectionGraph>(graph: &G, bases: &[Option<Base>; 1024], s: u16) -> Option<Base>
+    requires small { s < 1024 }
+    requires below { Based (G.SectionGraph.graph graph.now) bases.now s }
+    ensures { result ≡ base_at (G.SectionGraph.graph graph.now) s }
+{
+    if !may_fold(graph, s) {
+        return None;
+    }
+    let digest = content_digest(graph, s);
+    let leader = base_leader(graph, bases, digest, s);
+    Some(Base { leader, digest })
+}
+
+// The base of each foldable section.
+fn bases<G: SectionGraph>(graph: &G) -> [Option<Base>; 1024]
     ensures { Bases (G.SectionGraph.graph graph.now) result }
 {
-    let mut base = [1024; 1024];
-    let mut digests = [0; 1024];
+    let mut bases = [None; 1024];
     for s in 0..1024u16 {
-        if may_fold(graph, s) {
-            let digest = content_digest(graph, s);
-            let leader = base_leader(graph, &digests, &base, digest, s);
-            base[s as usize] = leader;
-            digests[s as usize] = digest;
-        }
+        let here = base_of(graph, &bases, s);
+        bases[s as usize] = here;
     }
-    base
-}
-
-// Whether section `s` joins section `t` in this round: `t` leads its new class, and both have the same old class, the same base, and
-// targets in the same old classes.
-fn joins<G: SectionGraph>(
-    graph: &G,
-    base: &[u16; 1024],
-    old: &[u16; 1024],
-    new: &[u16; 1024],
-    s: u16,
-    t: u16,
-) -> bool
-    requires graph { G.SectionGraph.sound graph.now }
-    requires small { s < 1024 }
-    requires low { t < s }
-    ensures { result ≡ joined (G.SectionGraph.graph graph.now) base.now old.now new.now s t }
-{
-    if new[t as usize] != t {
-        return false;
-    }
-    if old[t as usize] != old[s as usize] {
-        return false;
-    }
-    if base[t as usize] != base[s as usize] {
-        return false;
-    }
-    same_aims(graph, old, t, s)
-}
-
-// The lowest section from the old class of `s` on that `s` joins, and `s` itself if there is none.
-fn leader<G: SectionGraph>(
-    graph: &G,
-    base: &[u16; 1024],
-    old: &[u16; 1024],
-    new: &[u16; 1024],
-    s: u16,
-) -> u16
-    requires graph { G.SectionGraph.sound graph.now }
-    requires small { s < 1024 }
-    ensures { Found (joined (G.SectionGraph.graph graph.now) base.now old.now new.now s) (slice_index old.now s) s result }
-{
-    let first = old[s as usize];
-    for t in first..s {
-        if joins(graph, base, old, new, s, t) {
-            return t;
-        }
-    }
-    s
+    bases
 }
 
 // A round: from the classes at one depth those at the next.
-fn refine<G: SectionGraph>(graph: &G, base: &[u16; 1024], old: &[u16; 1024]) -> [u16; 1024]
-    requires graph { G.SectionGraph.sound graph.now }
-    requires bases { Bases (G.SectionGraph.graph graph.now) base.now }
+fn refine<G: SectionGraph>(
+    graph: &G,
+    bases: &[Option<Base>; 1024],
+    old: &[u16; 1024],
+) -> [u16; 1024]
+    requires { Bases (G.SectionGraph.graph graph.now) bases.now }
     ensures { Refined (G.SectionGraph.graph graph.now) old.now result }
 {
+    let round = Round { graph, bases, old };
     let mut new = [0; 1024];
     for s in 0..1024u16 {
-        let joined = leader(graph, base, old, &new, s);
-        new[s as usize] = joined;
+        let leader = round.leader(&new, s);
+        new[s as usize] = leader;
     }
     new
+}
+
+impl<'a, G: SectionGraph> Round<'a, G> {
+    // Whether section `s` joins section `t` in this round: `t` leads its new class, and both have the same old class, the same base,
+    // and targets in the same old classes.
+    fn joins(&self, new: &[u16; 1024], s: u16, t: u16) -> bool
+        requires small { s < 1024 }
+        requires low { t < s }
+        ensures { result ≡ joined (G.SectionGraph.graph self.now.graph.now) self.now.bases.now self.now.old.now new.now s t }
+    {
+        new[t as usize] == t
+            && self.old[t as usize] == self.old[s as usize]
+            && self.bases[t as usize] == self.bases[s as usize]
+            && same_aims(self.graph, self.old, t, s)
+    }
+
+    // The lowest section from the old class of `s` on that `s` joins, and `s` itself if there is none.
+    fn leader(&self, new: &[u16; 1024], s: u16) -> u16
+        requires { s < 1024 }
+        ensures { Found (joined (G.SectionGraph.graph self.now.graph.now) self.now.bases.now self.now.old.now new.now s) (slice_index self.now.old.now s) s result }
+    {
+        let first = self.old[s as usize];
+        lowest_or_end(first, s, |t| self.joins(new, s, t))
+    }
 }

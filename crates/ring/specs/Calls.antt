@@ -4,7 +4,12 @@ use Rattle.std.specs.List.{slice_get}
 use Rattle.model.specs.declared.Setting.TheVariants.{Foldable, Pinned}
 use Rattle.model.specs.declared.Target.TheVariants.{Section}
 use Rattle.model.specs.declared.Setting.{Setting}
+use Rattle.model.specs.declared.Relocation.{Relocation}
 use Rattle.model.specs.Graph.{Body, Graph}
+
+-- the relocation of a section that calls section t
+abbrev pub call_of : ℕ → Relocation
+call_of t = record { offset = 0; kind = 4; target = Section t; displacement = pos 0 }
 
 -- a section of one byte that calls section t
 abbrev pub caller : ℕ → Body
@@ -14,7 +19,7 @@ caller t =
       alignment = 1;
       bytes = 195 ∷ [];
       setting = Foldable;
-      relocations = record { offset = 0; kind = 4; target = Section t; displacement = pos 0 } ∷ [];
+      relocations = call_of t ∷ [];
     }
 
 -- the section that section s calls

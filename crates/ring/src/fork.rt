@@ -5,8 +5,9 @@ ghost use Rattle.model.specs.Graph.{Graph};
 ghost use Rattle.ring.specs.Calls.{forked, fork, sole_byte};
 ghost use Rattle.std.proofs.Common.{rules};
 
+use crate::{CALLER, call};
 use graph::SectionGraph;
-use model::{Record, Relocation, Setting, Target};
+use model::{Record, Relocation, Setting};
 
 #[derive(Drop)]
 pub struct Fork;
@@ -37,8 +38,6 @@ fn sole(s: u16) -> Option<u8>
 }
 
 impl SectionGraph for Fork {
-    ghost sound = { λ _. Unit {0} };
-
     ghost graph = { λ _. fork };
 
     ghost valid = { Prim.search rules };
@@ -49,26 +48,15 @@ impl SectionGraph for Fork {
 
     fn record_of(&self, s: u16) -> Option<Record> {
         match s {
-            0 | 2 => Some(Record {
-                flags: 6,
-                alignment: 1,
-                size: 1,
-                relocations: 1,
-                setting: Setting::Foldable,
-            }),
+            0 | 2 => Some(CALLER),
             1 | 3 => Some(Record {
-                flags: 6,
-                alignment: 1,
-                size: 1,
                 relocations: 0,
-                setting: Setting::Foldable,
+                ..CALLER
             }),
             5 => Some(Record {
-                flags: 6,
-                alignment: 1,
-                size: 1,
                 relocations: 0,
                 setting: Setting::Pinned,
+                ..CALLER
             }),
             _ => None,
         }
@@ -79,19 +67,8 @@ impl SectionGraph for Fork {
     }
 
     fn relocation(&self, s: u16, j: u16) -> Option<Relocation> {
-        match calls(s) {
-            Some(t) => if j == 0 {
-                Some(Relocation {
-                    offset: 0,
-                    kind: 4,
-                    target: Target::Section(t),
-                    displacement: 0,
-                })
-            } else {
-                None
-            },
-            None => None,
-        }
+        let t = calls(s)?;
+        (j == 0).then_some(call(t))
     }
 
     fn root_count(&self) -> u16 {
@@ -99,6 +76,6 @@ impl SectionGraph for Fork {
     }
 
     fn root(&self, j: u16) -> Option<u16> {
-        if j == 0 { Some(0) } else { None }
+        (j == 0).then_some(0)
     }
 }

@@ -5,13 +5,22 @@
 
 ghost use Rattle.std.specs.Prelude.{◌≡◌};
 ghost use Rattle.model.specs.Graph.{Graph};
-ghost use Rattle.ring.specs.Calls.{called, ring};
+ghost use Rattle.ring.specs.Calls.{called, call_of, ring};
 ghost use Rattle.std.proofs.Common.{rules};
 
 use graph::SectionGraph;
 use model::{Record, Relocation, Setting, Target};
 
 pub mod fork;
+
+// A section of one byte that calls another.
+const CALLER: Record = Record {
+    flags: 6,
+    alignment: 1,
+    size: 1,
+    relocations: 1,
+    setting: Setting::Foldable,
+};
 
 #[derive(Drop)]
 pub struct Ring;
@@ -28,9 +37,19 @@ fn called_by(s: u16) -> Option<u16>
     }
 }
 
-impl SectionGraph for Ring {
-    ghost sound = { λ _. Unit {0} };
+// The one relocation of a section that calls section `t`.
+fn call(t: u16) -> Relocation
+    ensures { result ≡ call_of t }
+{
+    Relocation {
+        offset: 0,
+        kind: 4,
+        target: Target::Section(t),
+        displacement: 0,
+    }
+}
 
+impl SectionGraph for Ring {
     ghost graph = { λ _. ring };
 
     ghost valid = { Prim.search rules };
@@ -40,39 +59,17 @@ impl SectionGraph for Ring {
     }
 
     fn record_of(&self, s: u16) -> Option<Record> {
-        match called_by(s) {
-            Some(_) => Some(Record {
-                flags: 6,
-                alignment: 1,
-                size: 1,
-                relocations: 1,
-                setting: Setting::Foldable,
-            }),
-            None => None,
-        }
+        called_by(s).map(|_| CALLER)
     }
 
     fn byte(&self, s: u16, i: u16) -> Option<u8> {
-        match called_by(s) {
-            Some(_) => if i == 0 { Some(195) } else { None },
-            None => None,
-        }
+        called_by(s)?;
+        (i == 0).then_some(195)
     }
 
     fn relocation(&self, s: u16, j: u16) -> Option<Relocation> {
-        match called_by(s) {
-            Some(t) => if j == 0 {
-                Some(Relocation {
-                    offset: 0,
-                    kind: 4,
-                    target: Target::Section(t),
-                    displacement: 0,
-                })
-            } else {
-                None
-            },
-            None => None,
-        }
+        let t = called_by(s)?;
+        (j == 0).then_some(call(t))
     }
 
     fn root_count(&self) -> u16 {
@@ -80,7 +77,7 @@ impl SectionGraph for Ring {
     }
 
     fn root(&self, j: u16) -> Option<u16> {
-        if j == 0 { Some(2) } else { None }
+        (j == 0).then_some(2)
     }
 }
 

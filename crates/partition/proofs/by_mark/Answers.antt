@@ -1,10 +1,9 @@
-use Rattle.std.proofs.Common.{sym, ◌∙◌}
-use Rattle.partition.proofs.Turns.{filling_start, filling_set, filling_end, first_class, other_class}
+use Rattle.std.proofs.Common.{sym, ◌∙◌, rules}
+use Rattle.unfolding.specs.Groups.{foldable}
+use Rattle.partition.proofs.Search.{found_from}
+use Rattle.partition.proofs.Turns.{filling_set, lowest_class, other_class}
 use Rattle.partition.proofs.by_mark.Goals as goal
 use Rattle.partition.proofs.by_mark.Goals.{then-may_fold, else-may_fold}
-
-pub loop-s-init : goal.loop-s-init
-loop-s-init g c = filling_start (g.G.SectionGraph.graph c.args.graph.now) 0
 
 pub loop-s-preserved : goal.loop-s-preserved
 loop-s-preserved g c =
@@ -13,11 +12,8 @@ loop-s-preserved g c =
     (elim c.if-may_fold.branch [
       | then-may_fold w ↦
           w.lead-is ∙
-          first_class x c.first_foldable-first.result c.loop-s.s c.first_foldable-first.ensures c.loop-s-test.true
-          (sym c.may_fold.ensures ∙ w.if-may_fold.true)
+          (w.unwrap_or-lead.ensures ∙
+          lowest_class x c.lowest-first.result c.loop-s.s (found_from (foldable x) _ 0 1024 _ (λ t b l h k. search rules) c.lowest-first.ensures) c.loop-s-test.true
+          (sym c.may_fold.ensures ∙ w.if-may_fold.true))
       | else-may_fold w ↦ w.lead-is ∙ other_class x c.loop-s.s (sym c.may_fold.ensures ∙ w.if-may_fold.false)
     ])
-
-pub returns : goal.returns
-returns g c =
-    filling_end (g.G.SectionGraph.graph c.args.graph.now) 0 c.loop-s.class c.loop-s.s c.loop-s.invariant c.loop-s-test.false

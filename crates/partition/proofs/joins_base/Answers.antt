@@ -1,17 +1,19 @@
-use Rattle.partition.proofs.Base.{digest_decides}
+use Rattle.std.proofs.Common.{arith}
+use Rattle.std.proofs.lemmas.Bool.Decides.{nat_tests}
+use Rattle.partition.proofs.Leaders.{digest_decides}
 use Rattle.partition.proofs.joins_base.Goals as goal
 
-pub returns-then-digests-t : goal.returns-then-digests-t
-returns-then-digests-t g c =
+pub returns-then-ne : goal.returns-then-ne
+returns-then-ne g c =
     digest_decides
     (g.G.SectionGraph.graph c.args.graph.now)
-    c.args.base.now
-    c.args.digests.now
+    c.args.bases.now
     c.args.s
     c.args.t
-    c.args.digest
     c.requires.low
-    c.requires.noted
-    c.requires.digest
-    c.if-base-t.false
-    c.if-digests-t.true
+    c.requires.below
+    (λ e.
+    let h = rw e at c.ne.ensures in
+    let k = c.if-ne.true in
+    let d = c.requires.digest in
+    grind (arith, nat_tests))

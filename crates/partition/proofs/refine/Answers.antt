@@ -1,31 +1,22 @@
 use Rattle.std.proofs.Common.{suc}
-use Rattle.partition.proofs.Turns.{filling_start, filling_end, refining_set}
+use Rattle.partition.proofs.Turns.{filling_end, refining_set}
 use Rattle.partition.proofs.refine.Goals as goal
-
-pub loop-s-init : goal.loop-s-init
-loop-s-init g c k _ = filling_start (g.G.SectionGraph.graph c.args.graph.now) (suc k)
 
 pub loop-s-preserved : goal.loop-s-preserved
 loop-s-preserved g c =
     refining_set
     (g.G.SectionGraph.graph c.args.graph.now)
-    (g.met.G.SectionGraph.valid c.args.graph.now c.requires.graph)
-    c.args.base.now
+    (g.met.G.SectionGraph.valid c.args.graph.now)
+    c.args.bases.now
     c.args.old.now
     c.loop-s.new
     c.loop-s.s
-    c.leader-joined.result
-    c.requires.bases
+    c.leader-leader.result
+    c.requires
     c.loop-s.invariant
     c.loop-s-test.true
-    c.leader-joined.ensures
+    c.leader-leader.ensures
 
 pub returns : goal.returns
 returns g c k h =
-    filling_end
-    (g.G.SectionGraph.graph c.args.graph.now)
-    (suc k)
-    c.loop-s.new
-    c.loop-s.s
-    (c.loop-s.invariant k h)
-    c.loop-s-test.false
+    filling_end (g.G.SectionGraph.graph c.args.graph.now) (suc k) c.loop-s.new c.loop-s.s (c.loop-s.invariant k h) c.loop-s-test.false

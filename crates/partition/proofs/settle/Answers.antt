@@ -1,22 +1,24 @@
 use Rattle.std.proofs.Common.{◌≡◌, ◌∙◌, arith}
+use Rattle.std.proofs.lemmas.Bool.Decides.{Decides-eqb}
+use Rattle.std.proofs.lemmas.Slice.Eq.{slice_eq-Decides}
 use Rattle.partition.proofs.Turns.{turn_start, turn_next, turn_last, turn_end}
 use Rattle.partition.proofs.settle.Goals as goal
 
 pub loop-k-init : goal.loop-k-init
-loop-k-init g c = turn_start (g.G.SectionGraph.graph c.args.graph.now) c.by_mark.result c.by_mark.ensures
+loop-k-init g c = turn_start (g.G.SectionGraph.graph c.args.graph.now) c.args.class.now c.requires.start
 
-pub returns-then-same : goal.returns-then-same
-returns-then-same g c =
+pub returns-then-eq : goal.returns-then-eq
+returns-then-eq g c =
     let h =
     turn_last
     (g.G.SectionGraph.graph c.args.graph.now)
-    (g.met.G.SectionGraph.valid c.args.graph.now c.requires.graph)
+    (g.met.G.SectionGraph.valid c.args.graph.now)
     c.loop-k.k
     c.loop-k.class
     c.refine-next.result
     c.loop-k.invariant
     c.refine-next.ensures
-    c.if-same.ensures in
+    (slice_eq-Decides Decides-eqb c.refine-next.result c.loop-k.class _ (c.if-eq.ensures)) in
     record { classes = h.classes; rounds = h.rounds }
 
 pub loop-k-preserved : goal.loop-k-preserved
@@ -28,7 +30,7 @@ loop-k-preserved g c =
     c.refine-next.result
     c.loop-k.invariant
     c.refine-next.ensures
-    c.if-same.ensures
+    (slice_eq-Decides Decides-eqb c.refine-next.result c.loop-k.class _ (c.if-eq.ensures))
 
 pub returns : goal.returns
 returns g c =
