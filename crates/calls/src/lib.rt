@@ -3,6 +3,9 @@
 
 #![tactic(auto)]
 
+ghost use Rattle.std.specs.Prelude.{◌≡◌};
+ghost use Rattle.calls.specs.Outcome.{outcome};
+
 use fault::Fault;
 
 // What became of a section in a pile.
@@ -59,4 +62,16 @@ pub enum Answer {
         merged: u16,
         rounds: u16,
     },
+}
+
+// The answer that the result of a bind, pin or root is.
+impl From<Result<(), Fault>> for Answer {
+    ghost from_gives = { λ res answer. answer ≡ outcome res };
+
+    fn from(res: Result<(), Fault>) -> Answer {
+        match res {
+            Ok(()) => Answer::Accepted,
+            Err(fault) => Answer::Refused(fault),
+        }
+    }
 }

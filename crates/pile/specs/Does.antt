@@ -9,14 +9,9 @@ use Rattle.runs.specs.State.{refusal, step, answer, after}
 use Rattle.ledger.specs.declared.Ledger.{Ledger}
 use Rattle.ledger.specs.Told.{told, Reachable, Kept}
 
--- a pile is sound if the graph below is, and some calls on a new pile over it led to the inner table
-abbrev pub Sound : Type 0 → Graph → Ledger → Type 0
-Sound below g t = below × Reachable g t
-
--- the answer that the result of a bind, pin or root is
-abbrev pub outcome : Result (Unit {0}) Fault → Answer
-outcome (Ok _) = Accepted
-outcome (Err f) = Refused f
+-- some calls on a new pile over g led to the inner table, whichever they were
+abbrev pub Sound : Graph → Ledger → Type 0
+Sound g t = ∥ Reachable g t ∥₁
 
 -- call c on a pile over g, with answer a: the state after it and the answer are as defined, and whatever calls led to the state before
 -- it, all is promised of the state after it

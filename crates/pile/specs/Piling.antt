@@ -1,7 +1,9 @@
 -- What each call does to a sound pile.
-use Rattle.std.specs.Prelude.{◌≡◌, ℕ, ◌+◌, ◌<◌, ◌≤◌, Bool, List, length, take, is_some, Some, None, Option, slice_index_or, refl}
-use Rattle.std.proofs.Common.{arith, sym, ap, subst, ◌∙◌}
-use Rattle.std.proofs.lemmas.List.{take_all, take_more}
+use Rattle.std.specs.Prelude.{◌≡◌, ℕ, ◌+◌, ◌<◌, ◌≤◌, Bool, List, [], ◌∷◌, ◌++◌, length, take, is_some, Some, None, Ok, Err, Option, Result, slice_index_or, refl}
+use Rattle.std.proofs.Common.{arith, sym, ap, subst, ◌∙◌, append_assoc}
+use Rattle.std.proofs.Math.Logic.{∥∥₁_elim, ∥∥₁_prop}
+use Rattle.std.proofs.lemmas.List.{append-nil, take_all, take_more}
+use Rattle.arrayvec.specs.ArrayVec.{array_vec_len}
 use Rattle.fault.specs.declared.Fault.{Fault}
 use Rattle.model.specs.Graph.{Body, Graph, count_of, told_record, root_count_of}
 use Rattle.model.specs.Laws.{Valid}
@@ -16,10 +18,12 @@ use Rattle.calls.specs.declared.Answer.TheVariants.{Accepted, Refused, Dropped, 
 use Rattle.runs.specs.State.{refusal, moved, unless, step, refused_or, answered, answer, after}
 use Rattle.slots.specs.Turns.{stays, drops, dropped_slot, leads, joins, joined_slot}
 use Rattle.ledger.specs.declared.Ledger.{Ledger}
-use Rattle.ledger.specs.Edits.{Bounds, with_bind, with_pin, with_root, Shut}
+use Rattle.ledger.specs.Edits.{fresh, Bounds, with_bind, with_pin, with_root, Shut}
 use Rattle.ledger.specs.Told.{told, Reachable, Kept}
-use Rattle.ledger.proofs.Telling.{after_step, told_tells, told_kept, step_reachable, step_kept, bind_refusal, pin_refusal, root_refusal, bind_room, pin_there, root_room, small, told_bind, told_pin, told_root, bind_bounds, pin_bounds, root_bounds, shut_bounds, there, marks, class, few, told_sweep, sweep_answer, told_fold, fold_answer}
-use Rattle.pile.specs.Does.{Does}
+use Rattle.ledger.proofs.OneProof.{State-set, Valid-prop}
+use Rattle.ledger.proofs.Telling.{fresh_reachable, after_step, told_tells, told_kept, step_reachable, step_kept, bind_refusal, pin_refusal, root_refusal, bind_room, pin_there, root_room, small, told_bind, told_pin, told_root, bind_bounds, pin_bounds, root_bounds, shut_bounds, there, marks, class, few, told_sweep, sweep_answer, told_fold, fold_answer}
+use Rattle.ledger.specs.Answers.{unless_refused}
+use Rattle.pile.specs.Does.{Sound, Does, Checked}
 
 -- a section is present where a record is told
 
@@ -28,20 +32,30 @@ some_record None = refl
 some_record (Some b) = refl
 
 -- the laws hold of the pile's graph
-pub pile_valid : (g : Graph) → Valid g → (t : Ledger) → Reachable g t → Valid (told g t).graph
-pile_valid g v t r = (told_tells g v t r).valid
+pub pile_valid : (g : Graph) → Valid g → (t : Ledger) → Sound g t → Valid (told g t).graph
+pile_valid g v t sound = ∥∥₁_elim sound (Valid-prop (told g t).graph) (λ r. (told_tells g v t r).valid)
 
--- the inner table after a call can be reached again, and the call does what it should
+-- nothing was called on a new pile
+pub fresh_sound : (g : Graph) (t : Ledger) → t ≡ fresh → Sound g t
+fresh_sound g t e = subst (Sound g) (sym e) ∣ fresh_reachable g ∣₁
+
+-- the inner table after a call is one that calls led to again, and the call does what it should
 pub record Done (g : Graph) (t t' : Ledger) (c : Call) (a : Answer) : Type 0 where
-  pub reachable : Reachable g t'
+  pub sound : Sound g t'
   pub does : Does g t t' c a
 
-module _ (g : Graph) (v : Valid g) (t : Ledger) (r : Reachable g t) where
-  done : (c : Call) (a : Answer) (t' : Ledger) → Bounds t' → told g t' ≡ step (told g t) c → a ≡ answer (told g t) c → Done g t t' c a
+module _ (g : Graph) (v : Valid g) (t : Ledger) (sound : Sound g t) where
+  done :
+      (c : Call) (a : Answer) (t' : Ledger) →
+      (Reachable g t → Bounds t') →
+      (Reachable g t → told g t' ≡ step (told g t) c) →
+      a ≡ answer (told g t) c →
+      Done g t t' c a
   done c a t' b e h =
+      let same : told g t' ≡ step (told g t) c = ∥∥₁_elim sound (State-set (told g t') (step (told g t) c)) e in
       record {
-        reachable = step_reachable g t r c t' e b;
-        does = record { state = e; answer = h; promise = step_kept g v t c t' e };
+        sound = ∥∥₁_elim sound ∥∥₁_prop (λ r. ∣ step_reachable g t r c t' (e r) (b r) ∣₁);
+        does = record { state = same; answer = h; promise = step_kept g v t c t' same };
       }
 
   -- a refused call
@@ -55,19 +69,30 @@ module _ (g : Graph) (v : Valid g) (t : Ledger) (r : Reachable g t) where
         promise = step_kept g v t c t same;
       }
 
+  pub checked : (c : Call) (x : Result (Unit {0}) Fault) → x ≡ unless_refused (refusal (told g t) c) → Checked g t c x
+  checked c x e = go (refusal (told g t) c) refl x e
+    where
+      go : (o : Option Fault) → refusal (told g t) c ≡ o → (x : Result (Unit {0}) Fault) → x ≡ unless_refused o → Checked g t c x
+      go None h (Ok u) e = h
+      go None h (Err f) e = absurd cc
+      go (Some f) h (Ok u) e = absurd cc
+      go (Some f) h (Err f') e = let same : f' ≡ f = cc in refused_done c f' (h ∙ ap (λ (y : Fault). Some y) (sym same))
+
   accepts : (c : Call) → answered (told g t) c ≡ Accepted → refusal (told g t) c ≡ None → Accepted ≡ answer (told g t) c
   accepts c a e = sym (ap (λ (o : Option Fault). refused_or o (answered (told g t) c)) e ∙ a)
 
   -- accepted ones
 
-  pub bind_fits : (e s : ℕ) → refusal (told g t) (Bind e s) ≡ None → t.bound < 64
+  pub bind_fits : (e s : ℕ) → refusal (told g t) (Bind e s) ≡ None → array_vec_len t.binds < 64
   bind_fits e s none = bind_room t (present g s) e s (sym (bind_refusal g t e s) ∙ none)
 
   pub bind_done : (e s : ℕ) → refusal (told g t) (Bind e s) ≡ None → (t' : Ledger) → t' ≡ with_bind t e s → Done g t t' (Bind e s) Accepted
   bind_done e s none t' made =
-      let room = bind_fits e s none in
       subst (λ (x : Ledger). Done g t x (Bind e s) Accepted) (sym made)
-      (done (Bind e s) Accepted (with_bind t e s) (bind_bounds t e s r.bounds room) (told_bind g v t r e s none room) (accepts (Bind e s) refl none))
+      (done (Bind e s) Accepted (with_bind t e s)
+      (λ r. bind_bounds t e s r.bounds (bind_fits e s none))
+      (λ r. told_bind g v t r e s none)
+      (accepts (Bind e s) refl none))
 
   pub pin_fits : (s : ℕ) → refusal (told g t) (Pin s) ≡ None → s < 1024
   pin_fits s none = small g v s (pin_there t (present g s) s (sym (pin_refusal g t s) ∙ none))
@@ -75,16 +100,21 @@ module _ (g : Graph) (v : Valid g) (t : Ledger) (r : Reachable g t) where
   pub pin_done : (s : ℕ) → refusal (told g t) (Pin s) ≡ None → (t' : Ledger) → t' ≡ with_pin t s → Done g t t' (Pin s) Accepted
   pin_done s none t' made =
       subst (λ (x : Ledger). Done g t x (Pin s) Accepted) (sym made)
-      (done (Pin s) Accepted (with_pin t s) (pin_bounds t s r.bounds) (told_pin g v t r s none (pin_fits s none)) (accepts (Pin s) refl none))
+      (done (Pin s) Accepted (with_pin t s)
+      (λ r. pin_bounds t s r.bounds)
+      (λ r. told_pin g v t r s none (pin_fits s none))
+      (accepts (Pin s) refl none))
 
-  pub root_fits : (s : ℕ) → refusal (told g t) (Root s) ≡ None → t.added < 64
+  pub root_fits : (s : ℕ) → refusal (told g t) (Root s) ≡ None → array_vec_len t.roots < 64
   root_fits s none = root_room t (present g s) (root_count_of g) s (sym (root_refusal g t s) ∙ none)
 
   pub root_done : (s : ℕ) → refusal (told g t) (Root s) ≡ None → (t' : Ledger) → t' ≡ with_root t s → Done g t t' (Root s) Accepted
   root_done s none t' made =
-      let room = root_fits s none in
       subst (λ (x : Ledger). Done g t x (Root s) Accepted) (sym made)
-      (done (Root s) Accepted (with_root t s) (root_bounds t s r.bounds room) (told_root g v t r s none room) (accepts (Root s) refl none))
+      (done (Root s) Accepted (with_root t s)
+      (λ r. root_bounds t s r.bounds (root_fits s none))
+      (λ r. told_root g v t r s none)
+      (accepts (Root s) refl none))
 
   -- a sweep by the marks of the reached sections, and a fold by the classes of the representatives
 
@@ -99,16 +129,16 @@ module _ (g : Graph) (v : Valid g) (t : Ledger) (r : Reachable g t) where
       let one = subst (λ (zs : List Bool). Shut (dropped_slot zs ys) (stays zs ys) (drops zs ys) n t t' a b) ex s in
       let two =
       subst
-      (λ (zs : List Bool). Shut (dropped_slot (there g v t r) zs) (stays (there g v t r) zs) (drops (there g v t r) zs) n t t' a b)
+      (λ (zs : List Bool). Shut (dropped_slot (there g v t) zs) (stays (there g v t) zs) (drops (there g v t) zs) n t t' a b)
       ey
       one in
       let three =
       subst
       (λ (k : ℕ).
       Shut
-      (dropped_slot (there g v t r) (marks g v t r))
-      (stays (there g v t r) (marks g v t r))
-      (drops (there g v t r) (marks g v t r))
+      (dropped_slot (there g v t) (marks g v t))
+      (stays (there g v t) (marks g v t))
+      (drops (there g v t) (marks g v t))
       k
       t
       t'
@@ -117,9 +147,9 @@ module _ (g : Graph) (v : Valid g) (t : Ledger) (r : Reachable g t) where
       en
       two in
       done Sweep (Dropped a b) t'
-      (shut_bounds (few g v t r) r.bounds three)
-      (told_sweep g v t r t' a b three)
-      (sweep_answer g v t r t' a b three)
+      (λ r. shut_bounds (few g v t) r.bounds three)
+      (λ r. told_sweep g v t t' a b r three)
+      (sweep_answer g v t t' a b three)
 
   pub fold_done :
       (xs : List Bool) (ys : List ℕ) (n k : ℕ) (t' : Ledger) (a b : ℕ) →
@@ -133,16 +163,16 @@ module _ (g : Graph) (v : Valid g) (t : Ledger) (r : Reachable g t) where
       let one = subst (λ (zs : List Bool). Shut (joined_slot zs ys) (leads zs ys) (joins zs ys) n t t' a b) ex s in
       let two =
       subst
-      (λ (zs : List ℕ). Shut (joined_slot (there g v t r) zs) (leads (there g v t r) zs) (joins (there g v t r) zs) n t t' a b)
+      (λ (zs : List ℕ). Shut (joined_slot (there g v t) zs) (leads (there g v t) zs) (joins (there g v t) zs) n t t' a b)
       ey
       one in
       let three =
       subst
       (λ (m : ℕ).
       Shut
-      (joined_slot (there g v t r) (class g v t r))
-      (leads (there g v t r) (class g v t r))
-      (joins (there g v t r) (class g v t r))
+      (joined_slot (there g v t) (class g v t))
+      (leads (there g v t) (class g v t))
+      (joins (there g v t) (class g v t))
       m
       t
       t'
@@ -151,28 +181,34 @@ module _ (g : Graph) (v : Valid g) (t : Ledger) (r : Reachable g t) where
       en
       two in
       done Fold (Merged a b k) t'
-      (shut_bounds (few g v t r) r.bounds three)
-      (told_fold g v t r t' a b three)
-      (fold_answer g v t r t' a b k ek three)
+      (λ r. shut_bounds (few g v t) r.bounds three)
+      (λ r. told_fold g v t t' a b r three)
+      (fold_answer g v t t' a b k ek three)
 
   pub count_small : (n : ℕ) → n ≡ count_of (told g t).graph → n ≤ 1024
-  count_small n e = omega (arith, few g v t r)
-
-  -- the roots are few enough to count
-  pub roots_small : (n : ℕ) → n ≡ root_count_of g → n + t.added ≤ 4160
-  roots_small n e = omega (arith, v.few_roots, r.bounds.added)
+  count_small n e = omega (arith, few g v t)
 
 -- a list of calls, one more
 
 pub run_more :
-    (g : Graph) (t t' : Ledger) (calls : List Call) (i : ℕ) (a : Answer) →
+    (g : Graph) (t₀ t t' : Ledger) (calls : List Call) (i : ℕ) (a : Answer) →
     i < length calls →
-    told g t ≡ after g (take i calls) →
+    ((cs : List Call) → told g t₀ ≡ after g cs → told g t ≡ after g (cs ++ take i calls)) →
     Does g t t' (slice_index_or calls i (Bind 0 0)) a →
-    told g t' ≡ after g (take (i + 1) calls)
-run_more g t t' calls i a lt led d =
+    (cs : List Call) → told g t₀ ≡ after g cs → told g t' ≡ after g (cs ++ take (i + 1) calls)
+run_more g t₀ t t' calls i a lt led d cs e =
+    let c = slice_index_or calls i (Bind 0 0) in
     d.state ∙
-    (sym (after_step g t (take i calls) led (slice_index_or calls i (Bind 0 0))) ∙ ap (after g) (sym (take_more calls i (Bind 0 0) lt)))
+    (sym (after_step g t (cs ++ take i calls) (led cs e) c) ∙
+    ap (after g) (append_assoc cs (take i calls) (c ∷ []) ∙ ap (λ (xs : List Call). cs ++ xs) (sym (take_more calls i (Bind 0 0) lt))))
 
-pub run_all : (g : Graph) → Valid g → (t : Ledger) (calls : List Call) (i : ℕ) → length calls ≤ i → told g t ≡ after g (take i calls) → Kept g calls (told g t)
-run_all g v t calls i h led = told_kept g v t calls (led ∙ ap (after g) (take_all i calls h))
+pub run_none : (g : Graph) (t : Ledger) (calls cs : List Call) → told g t ≡ after g cs → told g t ≡ after g (cs ++ take 0 calls)
+run_none g t calls cs e = e ∙ ap (after g) (sym (append-nil cs))
+
+pub run_all :
+    (g : Graph) → Valid g → (t₀ t : Ledger) (calls : List Call) (i : ℕ) →
+    length calls ≤ i →
+    ((cs : List Call) → told g t₀ ≡ after g cs → told g t ≡ after g (cs ++ take i calls)) →
+    (cs : List Call) → told g t₀ ≡ after g cs → Kept g (cs ++ calls) (told g t)
+run_all g v t₀ t calls i h led cs e =
+    told_kept g v t (cs ++ calls) (led cs e ∙ ap (λ (xs : List Call). after g (cs ++ xs)) (take_all i calls h))

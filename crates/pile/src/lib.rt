@@ -1,11 +1,12 @@
 // The pile over any section graph: binds, pins, roots, sweeps and folds, and the section graph that they leave.
 //
 // What a call does and answers is defined in the crate `runs`, where all that is promised is proved. A pile means the state that `told`
-// reads off the graph below and the inner table, and every call makes of it what the definition says.
+// reads off the graph below and the inner table, and every call makes of it what the definition says. That some calls led to what a pile
+// keeps stands in its type, so that no call and no question asks for anything.
 
 #![tactic(auto)]
 
-ghost use Rattle.std.specs.Prelude.{◌≡◌, ◌≤◌, List, [], ◌∷◌, ◌++◌, is_some, None};
+ghost use Rattle.std.specs.Prelude.{◌≡◌, List, [], ◌∷◌, ◌++◌, None};
 ghost use Rattle.model.specs.Graph.{count_of, record_of, byte_of, relocation_of, root_count_of, root_of};
 ghost use Rattle.steps.specs.Below.{table as listed};
 ghost use Rattle.unfolding.specs.Groups.{present};
@@ -13,9 +14,10 @@ ghost use Rattle.unfolding.specs.Reach.{reached};
 ghost use Rattle.unfolding.specs.Sections.{rep, rounds};
 ghost use Rattle.calls.specs.declared.Call.TheVariants.{Bind, Pin, Root, Sweep, Fold};
 ghost use Rattle.calls.specs.declared.Answer.TheVariants.{Accepted, Dropped, Merged};
+ghost use Rattle.calls.specs.Outcome.{outcome};
 ghost use Rattle.runs.specs.State.{start, refusal, after, place_of};
 ghost use Rattle.ledger.specs.Told.{told, Kept};
-ghost use Rattle.pile.specs.Does.{Sound, outcome, Does, Checked};
+ghost use Rattle.pile.specs.Does.{Sound, Does, Checked};
 ghost use Rattle.pile.specs.Piling.{pile_valid};
 
 use calls::{Answer, Call, Place};
@@ -25,67 +27,76 @@ use ledger::Ledger;
 use model::{Record, Relocation};
 use partition::partition;
 use reach::reach;
+use std::array;
 
 // A pile: the graph below, and what was called.
 #[derive(Drop)]
-pub struct Pile<G> {
+pub struct Pile<G: SectionGraph> {
     below: G,
     table: Ledger,
+    ghost sound: { Sound (G.SectionGraph.graph below) table },
 }
 
-// Whether a record is found.
-fn is_some(found: Option<Record>) -> bool
-    ensures { result ≡ is_some found }
+// Whether section `s` of a graph is present.
+fn is_present<G: SectionGraph>(graph: &G, s: u16) -> bool
+    ensures { result ≡ present (G.SectionGraph.graph graph.now) s }
 {
-    match found {
-        Some(_) => true,
-        None => false,
-    }
+    graph.record_of(s).is_some()
+}
+
+// The presence of each section of a graph.
+fn presence<G: SectionGraph>(graph: &G) -> [bool; 1024]
+    ensures { result ≡ listed (present (G.SectionGraph.graph graph.now)) 1024 }
+{
+    array::from_fn(|s| is_present(graph, s as u16))
 }
 
 // A pile is a section graph again.
 impl<G: SectionGraph> SectionGraph for Pile<G> {
-    ghost sound = { λ p. Sound (G.SectionGraph.sound p.below) (G.SectionGraph.graph p.below) p.table };
-
     ghost graph = { λ p. (told (G.SectionGraph.graph p.below) p.table).graph };
 
-    ghost valid = { λ x m.
+    ghost valid = { λ p.
         pile_valid
-        (G.SectionGraph.graph x.below)
-        (G.SectionGraph.valid x.below m.0)
-        x.table
-        m.1 };
+        (G.SectionGraph.graph p.below)
+        (G.SectionGraph.valid p.below)
+        p.table
+        p.sound };
 
+    #[tactic(auto, using(ledger::proofs::Telling::told_count))]
     fn count(&self) -> u16 {
-        self.seen_count(self.below.count())
+        self.below.count()
     }
 
+    #[tactic(auto, using(ledger::proofs::Asking::tells_record))]
     fn record_of(&self, s: u16) -> Option<Record> {
-        self.seen_record(s, self.below.record_of(s))
+        self.table.record(s, self.below.record_of(s))
     }
 
+    #[tactic(auto, using(ledger::proofs::Asking::tells_byte))]
     fn byte(&self, s: u16, i: u16) -> Option<u8> {
-        self.seen_byte(s, i, self.below.byte(s, i))
+        self.table.byte(s, self.below.byte(s, i))
     }
 
+    #[tactic(auto, using(ledger::proofs::Asking::tells_relocation))]
     fn relocation(&self, s: u16, j: u16) -> Option<Relocation> {
-        self.seen_relocation(s, j, self.below.relocation(s, j))
+        self.table.relocation(s, self.below.relocation(s, j))
     }
 
+    #[tactic(auto, using(ledger::proofs::Asking::tells_root_count))]
     fn root_count(&self) -> u16 {
-        self.seen_root_count(self.below.root_count())
+        self.below.root_count() + self.table.roots.len() as u16
     }
 
+    #[tactic(auto, using(ledger::proofs::Asking::tells_root))]
     fn root(&self, j: u16) -> Option<u16> {
-        self.seen_root(self.below.root_count(), j, self.below.root(j))
+        self.table
+            .root(self.below.root_count(), j, self.below.root(j))
     }
 }
 
 impl<G: SectionGraph> Pile<G> {
     // A new pile over a section graph: nothing is bound, pinned or rooted.
     pub fn new(below: G) -> Pile<G>
-        requires { G.SectionGraph.sound below }
-        ensures sound { Sound (G.SectionGraph.sound result.below) (G.SectionGraph.graph result.below) result.table }
         ensures over { result.below ≡ below }
         ensures state { told (G.SectionGraph.graph below) result.table ≡ start (G.SectionGraph.graph below) }
     {
@@ -102,135 +113,45 @@ impl<G: SectionGraph> Pile<G> {
         &self.below
     }
 
-    // Whether section `s` is present below.
-    fn has(&self, s: u16) -> bool
-        requires { Sound (G.SectionGraph.sound self.now.below) (G.SectionGraph.graph self.now.below) self.now.table }
-        ensures { result ≡ present (G.SectionGraph.graph self.now.below) s }
-    {
-        is_some(self.below.record_of(s))
-    }
-
     // The place of section `s` of the graph below: a number, swept or absent.
+    #[tactic(auto, using(ledger::proofs::Asking::tells_place))]
     pub fn place(&self, s: u16) -> Result<Place, Fault>
-        requires { Sound (G.SectionGraph.sound self.now.below) (G.SectionGraph.graph self.now.below) self.now.table }
         ensures { result ≡ place_of (told (G.SectionGraph.graph self.now.below) self.now.table) s }
     {
-        self.seen_place(self.below.count(), self.has(s), s)
-    }
-
-    // The questions, from the answers of the graph below.
-
-    fn seen_place(&self, n: u16, there: bool, s: u16) -> Result<Place, Fault>
-        requires sound { Sound (G.SectionGraph.sound self.now.below) (G.SectionGraph.graph self.now.below) self.now.table }
-        requires count { n ≡ count_of (G.SectionGraph.graph self.now.below) }
-        requires there { there ≡ present (G.SectionGraph.graph self.now.below) s }
-        ensures { result ≡ place_of (told (G.SectionGraph.graph self.now.below) self.now.table) s }
-    {
-        self.table.place(n, there, s)
-    }
-
-    fn seen_count(&self, n: u16) -> u16
-        requires sound { Sound (G.SectionGraph.sound self.now.below) (G.SectionGraph.graph self.now.below) self.now.table }
-        requires found { n ≡ count_of (G.SectionGraph.graph self.now.below) }
-        ensures { result ≡ count_of (told (G.SectionGraph.graph self.now.below) self.now.table).graph }
-    {
-        n
-    }
-
-    fn seen_record(&self, s: u16, found: Option<Record>) -> Option<Record>
-        requires sound { Sound (G.SectionGraph.sound self.now.below) (G.SectionGraph.graph self.now.below) self.now.table }
-        requires found { found ≡ record_of (G.SectionGraph.graph self.now.below) s }
-        ensures { result ≡ record_of (told (G.SectionGraph.graph self.now.below) self.now.table).graph s }
-    {
-        self.table.record(s, found)
-    }
-
-    fn seen_byte(&self, s: u16, i: u16, found: Option<u8>) -> Option<u8>
-        requires sound { Sound (G.SectionGraph.sound self.now.below) (G.SectionGraph.graph self.now.below) self.now.table }
-        requires found { found ≡ byte_of (G.SectionGraph.graph self.now.below) s i }
-        ensures { result ≡ byte_of (told (G.SectionGraph.graph self.now.below) self.now.table).graph s i }
-    {
-        self.table.byte(s, found)
-    }
-
-    fn seen_relocation(&self, s: u16, j: u16, found: Option<Relocation>) -> Option<Relocation>
-        requires sound { Sound (G.SectionGraph.sound self.now.below) (G.SectionGraph.graph self.now.below) self.now.table }
-        requires found { found ≡ relocation_of (G.SectionGraph.graph self.now.below) s j }
-        ensures { result ≡ relocation_of (told (G.SectionGraph.graph self.now.below) self.now.table).graph s j }
-    {
-        self.table.relocation(s, found)
-    }
-
-    fn seen_root_count(&self, n: u16) -> u16
-        requires sound { Sound (G.SectionGraph.sound self.now.below) (G.SectionGraph.graph self.now.below) self.now.table }
-        requires found { n ≡ root_count_of (G.SectionGraph.graph self.now.below) }
-        ensures { result ≡ root_count_of (told (G.SectionGraph.graph self.now.below) self.now.table).graph }
-    {
-        n + self.table.added
-    }
-
-    fn seen_root(&self, n: u16, j: u16, found: Option<u16>) -> Option<u16>
-        requires sound { Sound (G.SectionGraph.sound self.now.below) (G.SectionGraph.graph self.now.below) self.now.table }
-        requires count { n ≡ root_count_of (G.SectionGraph.graph self.now.below) }
-        requires found { found ≡ root_of (G.SectionGraph.graph self.now.below) j }
-        ensures { result ≡ root_of (told (G.SectionGraph.graph self.now.below) self.now.table).graph j }
-    {
-        self.table.root(n, j, found)
-    }
-
-    // The presence of each section in the pile.
-    fn presence(&self) -> [bool; 1024]
-        requires { Sound (G.SectionGraph.sound self.now.below) (G.SectionGraph.graph self.now.below) self.now.table }
-        ensures { result ≡ listed (present (told (G.SectionGraph.graph self.now.below) self.now.table).graph) 1024 }
-    {
-        let mut there = [false; 1024];
-        for s in 0..1024u16 {
-            there[s as usize] = is_some(self.record_of(s));
-        }
-        there
+        self.table
+            .place(self.below.count(), is_present(&self.below, s), s)
     }
 
     // Whether calls are refused, and why.
 
     fn check_bind(&self, name: u16, section: u16) -> Result<(), Fault>
-        requires { Sound (G.SectionGraph.sound self.now.below) (G.SectionGraph.graph self.now.below) self.now.table }
         ensures { Checked (G.SectionGraph.graph self.now.below) self.now.table (Bind name section) result }
     {
-        match self.table.bind_refusal(self.has(section), name, section) {
-            Some(fault) => Err(fault),
-            None => Ok(()),
-        }
+        self.table
+            .check_bind(is_present(&self.below, section), name, section)
     }
 
     fn check_pin(&self, section: u16) -> Result<(), Fault>
-        requires { Sound (G.SectionGraph.sound self.now.below) (G.SectionGraph.graph self.now.below) self.now.table }
         ensures { Checked (G.SectionGraph.graph self.now.below) self.now.table (Pin section) result }
     {
-        match self.table.pin_refusal(self.has(section), section) {
-            Some(fault) => Err(fault),
-            None => Ok(()),
-        }
+        self.table
+            .check_pin(is_present(&self.below, section), section)
     }
 
     fn check_root(&self, section: u16) -> Result<(), Fault>
-        requires { Sound (G.SectionGraph.sound self.now.below) (G.SectionGraph.graph self.now.below) self.now.table }
         ensures { Checked (G.SectionGraph.graph self.now.below) self.now.table (Root section) result }
     {
-        match self
-            .table
-            .root_refusal(self.has(section), self.below.root_count(), section)
-        {
-            Some(fault) => Err(fault),
-            None => Ok(()),
-        }
+        self.table.check_root(
+            is_present(&self.below, section),
+            self.below.root_count(),
+            section,
+        )
     }
 
     // The calls.
 
     // Outside name `name` stands for section `section` from now on: each relocation to it points at the section.
     pub fn bind(&mut self, name: u16, section: u16) -> Result<(), Fault>
-        requires { Sound (G.SectionGraph.sound self.old.below) (G.SectionGraph.graph self.old.below) self.old.table }
-        ensures sound { Sound (G.SectionGraph.sound self.new.below) (G.SectionGraph.graph self.new.below) self.new.table }
         ensures over { self.new.below ≡ self.old.below }
         ensures does { Does (G.SectionGraph.graph self.old.below) self.old.table self.new.table (Bind name section) (outcome result) }
     {
@@ -241,9 +162,7 @@ impl<G: SectionGraph> Pile<G> {
 
     // The same where it is not refused.
     fn accept_bind(&mut self, name: u16, section: u16)
-        requires sound { Sound (G.SectionGraph.sound self.old.below) (G.SectionGraph.graph self.old.below) self.old.table }
-        requires open { refusal (told (G.SectionGraph.graph self.old.below) self.old.table) (Bind name section) ≡ None }
-        ensures sound { Sound (G.SectionGraph.sound self.new.below) (G.SectionGraph.graph self.new.below) self.new.table }
+        requires { refusal (told (G.SectionGraph.graph self.old.below) self.old.table) (Bind name section) ≡ None }
         ensures over { self.new.below ≡ self.old.below }
         ensures does { Does (G.SectionGraph.graph self.old.below) self.old.table self.new.table (Bind name section) Accepted }
     {
@@ -252,8 +171,6 @@ impl<G: SectionGraph> Pile<G> {
 
     // Section `section` is pinned: it keeps its number.
     pub fn pin(&mut self, section: u16) -> Result<(), Fault>
-        requires { Sound (G.SectionGraph.sound self.old.below) (G.SectionGraph.graph self.old.below) self.old.table }
-        ensures sound { Sound (G.SectionGraph.sound self.new.below) (G.SectionGraph.graph self.new.below) self.new.table }
         ensures over { self.new.below ≡ self.old.below }
         ensures does { Does (G.SectionGraph.graph self.old.below) self.old.table self.new.table (Pin section) (outcome result) }
     {
@@ -264,9 +181,7 @@ impl<G: SectionGraph> Pile<G> {
 
     // The same where it is not refused.
     fn accept_pin(&mut self, section: u16)
-        requires sound { Sound (G.SectionGraph.sound self.old.below) (G.SectionGraph.graph self.old.below) self.old.table }
-        requires open { refusal (told (G.SectionGraph.graph self.old.below) self.old.table) (Pin section) ≡ None }
-        ensures sound { Sound (G.SectionGraph.sound self.new.below) (G.SectionGraph.graph self.new.below) self.new.table }
+        requires { refusal (told (G.SectionGraph.graph self.old.below) self.old.table) (Pin section) ≡ None }
         ensures over { self.new.below ≡ self.old.below }
         ensures does { Does (G.SectionGraph.graph self.old.below) self.old.table self.new.table (Pin section) Accepted }
     {
@@ -275,8 +190,6 @@ impl<G: SectionGraph> Pile<G> {
 
     // Section `section` is one more root.
     pub fn root(&mut self, section: u16) -> Result<(), Fault>
-        requires { Sound (G.SectionGraph.sound self.old.below) (G.SectionGraph.graph self.old.below) self.old.table }
-        ensures sound { Sound (G.SectionGraph.sound self.new.below) (G.SectionGraph.graph self.new.below) self.new.table }
         ensures over { self.new.below ≡ self.old.below }
         ensures does { Does (G.SectionGraph.graph self.old.below) self.old.table self.new.table (Root section) (outcome result) }
     {
@@ -287,9 +200,7 @@ impl<G: SectionGraph> Pile<G> {
 
     // The same where it is not refused.
     fn accept_root(&mut self, section: u16)
-        requires sound { Sound (G.SectionGraph.sound self.old.below) (G.SectionGraph.graph self.old.below) self.old.table }
-        requires open { refusal (told (G.SectionGraph.graph self.old.below) self.old.table) (Root section) ≡ None }
-        ensures sound { Sound (G.SectionGraph.sound self.new.below) (G.SectionGraph.graph self.new.below) self.new.table }
+        requires { refusal (told (G.SectionGraph.graph self.old.below) self.old.table) (Root section) ≡ None }
         ensures over { self.new.below ≡ self.old.below }
         ensures does { Does (G.SectionGraph.graph self.old.below) self.old.table self.new.table (Root section) Accepted }
     {
@@ -299,77 +210,57 @@ impl<G: SectionGraph> Pile<G> {
     // Makes each present section absent that no chain of relocations from a root reaches: how many are present now, and how many were
     // dropped.
     pub fn sweep(&mut self) -> (u16, u16)
-        requires { Sound (G.SectionGraph.sound self.old.below) (G.SectionGraph.graph self.old.below) self.old.table }
-        ensures sound { Sound (G.SectionGraph.sound self.new.below) (G.SectionGraph.graph self.new.below) self.new.table }
         ensures over { self.new.below ≡ self.old.below }
         ensures does { Does (G.SectionGraph.graph self.old.below) self.old.table self.new.table Sweep (Dropped result.0 result.1) }
     {
         let marks = reach(self);
-        let there = self.presence();
-        let n = self.count();
-        self.drop_unmarked(&there, &marks, n)
+        self.drop_unmarked(&marks)
     }
 
     // The same by marks.
-    fn drop_unmarked(&mut self, there: &[bool; 1024], marks: &[bool; 1024], n: u16) -> (u16, u16)
-        requires sound { Sound (G.SectionGraph.sound self.old.below) (G.SectionGraph.graph self.old.below) self.old.table }
-        requires there { there.now ≡ listed (present (told (G.SectionGraph.graph self.old.below) self.old.table).graph) 1024 }
-        requires marks { marks.now ≡ listed (reached (told (G.SectionGraph.graph self.old.below) self.old.table).graph) 1024 }
-        requires count { n ≡ count_of (told (G.SectionGraph.graph self.old.below) self.old.table).graph }
-        ensures sound { Sound (G.SectionGraph.sound self.new.below) (G.SectionGraph.graph self.new.below) self.new.table }
+    fn drop_unmarked(&mut self, marks: &[bool; 1024]) -> (u16, u16)
+        requires { marks.now ≡ listed (reached (told (G.SectionGraph.graph self.old.below) self.old.table).graph) 1024 }
         ensures over { self.new.below ≡ self.old.below }
         ensures does { Does (G.SectionGraph.graph self.old.below) self.old.table self.new.table Sweep (Dropped result.0 result.1) }
     {
-        self.table.sweep(there, marks, n)
+        let there = presence(self);
+        let n = self.count();
+        self.table.sweep(&there, marks, n)
     }
 
     // Makes one of the present foldable sections whose unfoldings agree at every depth, the lowest: how many sections are present now, how
     // many were merged, and the rounds.
     pub fn fold(&mut self) -> (u16, u16, u16)
-        requires { Sound (G.SectionGraph.sound self.old.below) (G.SectionGraph.graph self.old.below) self.old.table }
-        ensures sound { Sound (G.SectionGraph.sound self.new.below) (G.SectionGraph.graph self.new.below) self.new.table }
         ensures over { self.new.below ≡ self.old.below }
         ensures does { Does (G.SectionGraph.graph self.old.below) self.old.table self.new.table Fold (Merged result.0 result.1 result.2) }
     {
         let mut class = [0; 1024];
         let rounds = partition(self, &mut class);
-        let there = self.presence();
-        let n = self.count();
-        let (present, merged) = self.join_groups(&there, &class, n, rounds);
+        let (present, merged) = self.join_groups(&class, rounds);
         (present, merged, rounds)
     }
 
     // The same by classes; `depth` is the rounds.
-    fn join_groups(
-        &mut self,
-        there: &[bool; 1024],
-        class: &[u16; 1024],
-        n: u16,
-        depth: u16,
-    ) -> (u16, u16)
-        requires sound { Sound (G.SectionGraph.sound self.old.below) (G.SectionGraph.graph self.old.below) self.old.table }
-        requires there { there.now ≡ listed (present (told (G.SectionGraph.graph self.old.below) self.old.table).graph) 1024 }
+    fn join_groups(&mut self, class: &[u16; 1024], depth: u16) -> (u16, u16)
         requires class { class.now ≡ listed (rep (told (G.SectionGraph.graph self.old.below) self.old.table).graph) 1024 }
-        requires count { n ≡ count_of (told (G.SectionGraph.graph self.old.below) self.old.table).graph }
         requires rounds { depth ≡ rounds (told (G.SectionGraph.graph self.old.below) self.old.table).graph }
-        ensures sound { Sound (G.SectionGraph.sound self.new.below) (G.SectionGraph.graph self.new.below) self.new.table }
         ensures over { self.new.below ≡ self.old.below }
         ensures does { Does (G.SectionGraph.graph self.old.below) self.old.table self.new.table Fold (Merged result.0 result.1 depth) }
     {
-        self.table.fold(there, class, n)
+        let there = presence(self);
+        let n = self.count();
+        self.table.fold(&there, class, n)
     }
 
     // One call told as data, and its answer.
     pub fn apply(&mut self, call: Call) -> Answer
-        requires { Sound (G.SectionGraph.sound self.old.below) (G.SectionGraph.graph self.old.below) self.old.table }
-        ensures sound { Sound (G.SectionGraph.sound self.new.below) (G.SectionGraph.graph self.new.below) self.new.table }
         ensures over { self.new.below ≡ self.old.below }
         ensures does { Does (G.SectionGraph.graph self.old.below) self.old.table self.new.table call result }
     {
         match call {
-            Call::Bind { name, section } => answered(self.bind(name, section)),
-            Call::Pin { section } => answered(self.pin(section)),
-            Call::Root { section } => answered(self.root(section)),
+            Call::Bind { name, section } => self.bind(name, section).into(),
+            Call::Pin { section } => self.pin(section).into(),
+            Call::Root { section } => self.root(section).into(),
             Call::Sweep => {
                 let (present, dropped) = self.sweep();
                 Answer::Dropped { present, dropped }
@@ -384,38 +275,25 @@ impl<G: SectionGraph> Pile<G> {
             }
         }
     }
-}
 
-// The answer that the result of a bind, pin or root is.
-fn answered(res: Result<(), Fault>) -> Answer
-    ensures { result ≡ outcome res }
-{
-    match res {
-        Ok(()) => Answer::Accepted,
-        Err(fault) => Answer::Refused(fault),
+    // A list of calls done in order, whatever calls led to the pile before.
+    fn apply_all(&mut self, calls: &[Call])
+        ensures over { self.new.below ≡ self.old.below }
+        ensures kept { (before : List _) → told (G.SectionGraph.graph self.old.below) self.old.table ≡ after (G.SectionGraph.graph self.old.below) before → Kept (G.SectionGraph.graph self.old.below) (before ++ calls.now) (told (G.SectionGraph.graph self.old.below) self.new.table) }
+    {
+        for call in calls {
+            let _ = self.apply(*call);
+        }
     }
 }
 
 // A new pile over a section graph, and a list of calls done in order. All is promised of it that the calls are to keep: what a fold makes
 // one, the roots, that nothing smaller has roots alike, and that once swept and folded it does not change.
 pub fn run<G: SectionGraph>(below: G, calls: &[Call]) -> Pile<G>
-    requires { G.SectionGraph.sound below }
-    ensures sound { Sound (G.SectionGraph.sound result.below) (G.SectionGraph.graph result.below) result.table }
-    ensures over { result.below ≡ below }
-    ensures kept { Kept (G.SectionGraph.graph below) calls.now (told (G.SectionGraph.graph below) result.table) }
-{
-    run_all(below, calls)
-}
-
-fn run_all<G: SectionGraph>(below: G, calls: &[Call]) -> Pile<G>
-    requires { G.SectionGraph.sound below }
-    ensures sound { Sound (G.SectionGraph.sound result.below) (G.SectionGraph.graph result.below) result.table }
     ensures over { result.below ≡ below }
     ensures kept { Kept (G.SectionGraph.graph below) calls.now (told (G.SectionGraph.graph below) result.table) }
 {
     let mut pile = Pile::new(below);
-    for call in calls {
-        let _ = pile.apply(*call);
-    }
+    pile.apply_all(calls);
     pile
 }

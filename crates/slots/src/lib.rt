@@ -63,6 +63,7 @@ impl Slots {
     fn follow(&self, s: u16, steps: u32) -> Place
         ensures { result ≡ followed steps self.now.list s }
     {
+        // Each step may end it: a fold that is cut short says so less plainly than this loop.
         let mut at = s;
         for _k in 0..steps {
             match self.slot(at) {
@@ -133,6 +134,7 @@ impl Slots {
     {
         let mut left = 0;
         let mut gone = 0;
+        // By number, since one slot is changed through `&mut self`, a form that was asked for.
         for s in 0..n {
             if there[usize::from(s)] {
                 match choose(s) {

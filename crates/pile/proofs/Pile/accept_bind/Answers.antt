@@ -5,14 +5,25 @@ use Rattle.pile.proofs.Pile.accept_bind.Goals as goal
 pub bind-requires : goal.bind-requires
 bind-requires g c =
     let x = g.G.SectionGraph.graph c.args.self.now.below in
-    let v = g.met.G.SectionGraph.valid c.args.self.now.below c.requires.sound.0 in
+    let v = g.met.G.SectionGraph.valid c.args.self.now.below in
     let t = c.args.self.now.table in
-    record { bounds = c.requires.sound.1.bounds; room = bind_fits x v t c.requires.sound.1 c.args.name c.args.section c.requires.open }
+    let sound = c.args.self.now.sound in
+    bind_fits x v t sound c.args.name c.args.section c.requires
+
+pub invariant_of-self : goal.invariant_of-self
+invariant_of-self g c =
+    let x = g.G.SectionGraph.graph c.args.self.now.below in
+    let v = g.met.G.SectionGraph.valid c.args.self.now.below in
+    let t = c.args.self.now.table in
+    let sound = c.args.self.now.sound in
+    let d = bind_done x v t sound c.args.name c.args.section c.requires c.bind.new.self c.bind.ensures in
+    record { sound = d.sound }
 
 pub returns : goal.returns
 returns g c =
     let x = g.G.SectionGraph.graph c.args.self.now.below in
-    let v = g.met.G.SectionGraph.valid c.args.self.now.below c.requires.sound.0 in
+    let v = g.met.G.SectionGraph.valid c.args.self.now.below in
     let t = c.args.self.now.table in
-    let d = bind_done x v t c.requires.sound.1 c.args.name c.args.section c.requires.open c.bind.new.self c.bind.ensures in
-    record { sound = (c.requires.sound.0, d.reachable); over = refl; does = d.does }
+    let sound = c.args.self.now.sound in
+    let d = bind_done x v t sound c.args.name c.args.section c.requires c.bind.new.self c.bind.ensures in
+    record { over = refl; does = d.does }

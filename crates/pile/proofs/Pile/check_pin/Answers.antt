@@ -1,23 +1,16 @@
-use Rattle.std.proofs.Common.{sym, ◌∙◌}
+use Rattle.std.proofs.Common.{sym, ap, ◌∙◌}
 use Rattle.calls.specs.declared.Call.TheVariants.{Pin}
-use Rattle.ledger.specs.Answers.{pin_refused}
+use Rattle.ledger.specs.Answers.{pin_refused, unless_refused}
 use Rattle.ledger.proofs.Telling.{pin_refusal}
-use Rattle.pile.specs.Piling.{refused_done}
+use Rattle.pile.specs.Piling.{checked}
 use Rattle.pile.proofs.Pile.check_pin.Goals as goal
 
-pub returns-in-Some : goal.returns-in-Some
-returns-in-Some g c =
+pub returns : goal.returns
+returns g c =
     let x = g.G.SectionGraph.graph c.args.self.now.below in
-    let v = g.met.G.SectionGraph.valid c.args.self.now.below c.requires.0 in
+    let v = g.met.G.SectionGraph.valid c.args.self.now.below in
     let t = c.args.self.now.table in
-    let p = c.has.ensures in
-    let why = pin_refusal x t c.args.section ∙ sym (c.pin_refusal.ensures ∙ (λ i. pin_refused t (p i) c.args.section)) in
-    refused_done x v t c.requires.1 (Pin c.args.section) c.in-Some.fault (why ∙ c.in-Some.is)
-
-pub returns-in-None : goal.returns-in-None
-returns-in-None g c =
-    let x = g.G.SectionGraph.graph c.args.self.now.below in
-    let t = c.args.self.now.table in
-    let p = c.has.ensures in
-    let why = pin_refusal x t c.args.section ∙ sym (c.pin_refusal.ensures ∙ (λ i. pin_refused t (p i) c.args.section)) in
-    why ∙ c.in-None.is
+    let sound = c.args.self.now.sound in
+    let p = c.is_present.ensures in
+    checked x v t sound (Pin c.args.section) c.check_pin.result
+    (c.check_pin.ensures ∙ ap unless_refused ((λ i. pin_refused t (p i) c.args.section) ∙ sym (pin_refusal x t c.args.section)))

@@ -5,22 +5,41 @@ use Rattle.pile.proofs.Pile.drop_unmarked.Goals as goal
 pub sweep-requires : goal.sweep-requires
 sweep-requires g c =
     let x = g.G.SectionGraph.graph c.args.self.now.below in
-    let v = g.met.G.SectionGraph.valid c.args.self.now.below c.requires.sound.0 in
+    let v = g.met.G.SectionGraph.valid c.args.self.now.below in
     let t = c.args.self.now.table in
-    record { bounds = c.requires.sound.1.bounds; small = count_small x v t c.requires.sound.1 c.args.n c.requires.count }
+    let sound = c.args.self.now.sound in
+    count_small x v t sound c.count-n.result c.count-n.ensures
+
+pub invariant_of-self : goal.invariant_of-self
+invariant_of-self g c =
+    let x = g.G.SectionGraph.graph c.args.self.now.below in
+    let v = g.met.G.SectionGraph.valid c.args.self.now.below in
+    let t = c.args.self.now.table in
+    let sound = c.args.self.now.sound in
+    let d =
+    sweep_done x v t sound c.presence-there.result c.args.marks.now c.count-n.result
+    c.sweep.new.self
+    c.sweep.result.0
+    c.sweep.result.1
+    c.presence-there.ensures
+    c.requires
+    c.count-n.ensures
+    c.sweep.ensures in
+    record { sound = d.sound }
 
 pub returns : goal.returns
 returns g c =
     let x = g.G.SectionGraph.graph c.args.self.now.below in
-    let v = g.met.G.SectionGraph.valid c.args.self.now.below c.requires.sound.0 in
+    let v = g.met.G.SectionGraph.valid c.args.self.now.below in
     let t = c.args.self.now.table in
+    let sound = c.args.self.now.sound in
     let d =
-    sweep_done x v t c.requires.sound.1 c.args.there.now c.args.marks.now c.args.n
+    sweep_done x v t sound c.presence-there.result c.args.marks.now c.count-n.result
     c.sweep.new.self
     c.sweep.result.0
     c.sweep.result.1
-    c.requires.there
-    c.requires.marks
-    c.requires.count
+    c.presence-there.ensures
+    c.requires
+    c.count-n.ensures
     c.sweep.ensures in
-    record { sound = (c.requires.sound.0, d.reachable); over = refl; does = d.does }
+    record { over = refl; does = d.does }

@@ -5,22 +5,43 @@ use Rattle.pile.proofs.Pile.join_groups.Goals as goal
 pub fold-requires : goal.fold-requires
 fold-requires g c =
     let x = g.G.SectionGraph.graph c.args.self.now.below in
-    let v = g.met.G.SectionGraph.valid c.args.self.now.below c.requires.sound.0 in
+    let v = g.met.G.SectionGraph.valid c.args.self.now.below in
     let t = c.args.self.now.table in
-    record { bounds = c.requires.sound.1.bounds; small = count_small x v t c.requires.sound.1 c.args.n c.requires.count }
+    let sound = c.args.self.now.sound in
+    count_small x v t sound c.count-n.result c.count-n.ensures
+
+pub invariant_of-self : goal.invariant_of-self
+invariant_of-self g c =
+    let x = g.G.SectionGraph.graph c.args.self.now.below in
+    let v = g.met.G.SectionGraph.valid c.args.self.now.below in
+    let t = c.args.self.now.table in
+    let sound = c.args.self.now.sound in
+    let d =
+    fold_done x v t sound c.presence-there.result c.args.class.now c.count-n.result c.args.depth
+    c.fold.new.self
+    c.fold.result.0
+    c.fold.result.1
+    c.presence-there.ensures
+    c.requires.class
+    c.count-n.ensures
+    c.requires.rounds
+    c.fold.ensures in
+    record { sound = d.sound }
 
 pub returns : goal.returns
 returns g c =
     let x = g.G.SectionGraph.graph c.args.self.now.below in
-    let v = g.met.G.SectionGraph.valid c.args.self.now.below c.requires.sound.0 in
+    let v = g.met.G.SectionGraph.valid c.args.self.now.below in
     let t = c.args.self.now.table in
+    let sound = c.args.self.now.sound in
     let d =
-    fold_done x v t c.requires.sound.1 c.args.there.now c.args.class.now c.args.n c.args.depth
+    fold_done x v t sound c.presence-there.result c.args.class.now c.count-n.result c.args.depth
     c.fold.new.self
     c.fold.result.0
     c.fold.result.1
-    c.requires.there
+    c.presence-there.ensures
     c.requires.class
-    c.requires.count c.requires.rounds
+    c.count-n.ensures
+    c.requires.rounds
     c.fold.ensures in
-    record { sound = (c.requires.sound.0, d.reachable); over = refl; does = d.does }
+    record { over = refl; does = d.does }
