@@ -1,12 +1,15 @@
 -- The questions to a reader, from what it holds.
-use Rattle.std.specs.Prelude.{◌≡◌, ℕ, zero, suc, true, List, [], Some, None, Option, slice_index, refl}
+use Rattle.std.specs.Prelude.{◌≡◌, ℕ, true, List, [], drop, Some, None, Option, Result, unwrap_or, slice_index_or, refl}
 use Rattle.std.proofs.Common.{sym, ap, subst, ◌∙◌, ⊎_elim, arith}
 use Rattle.std.specs.Option.{option_map}
+use Rattle.std.proofs.Math.Seq.{drop-nil}
 use Rattle.std.proofs.lemmas.Bool.{cond-false, le-ltb}
 use Rattle.model.specs.declared.Record.{Record}
 use Rattle.model.specs.Graph.{empty, count_of, record_of, byte_of, relocation_of, root_count_of, root_of}
 use Rattle.model.specs.Laws.{Valid}
 use Rattle.lines.specs.Lines.{lines, row_start}
+use Rattle.row.specs.declared.Cause.{Cause}
+use Rattle.row.specs.Entry.{Entry}
 use Rattle.row.specs.Reading.{read_row}
 use Rattle.layout.specs.Reading.{bad_row, graph_of, bad_row_at, dangling_at, dangling_from, or_else, fault_of}
 use Rattle.layout.proofs.Texts.{verdict_stands}
@@ -23,43 +26,79 @@ formed_from t h = go (bad_row t) h
     go None e = refl
     go (Some k) e = absurd (let z : ◌≡◌ {A = ℕ} 0 1 = cc in omega arith)
 
-none_from : (p : ℕ) → rows_from [] p ≡ []
-none_from zero = refl
-none_from (suc p) = refl
+none_from : (p : Option ℕ) → rows_from [] p ≡ []
+none_from None = refl
+none_from (Some p) = drop-nil p
 
 -- a fact of what is held: it holds of no text, and of a text whose rows form with its own starts
-by_text : (P : List ℕ → List ℕ → Type 0) → ((xs : List ℕ) → P [] xs) → ((t : List ℕ) → bad_row t ≡ None → P t (starts_of t))
-    → (t xs : List ℕ) → held t xs ≡ true → P t xs
+by_text : (P : List ℕ → List (Option ℕ) → Type 0) → ((xs : List (Option ℕ)) → P [] xs) → ((t : List ℕ) → bad_row t ≡ None → P t (starts_of t))
+    → (t : List ℕ) (xs : List (Option ℕ)) → held t xs ≡ true → P t xs
 by_text P none some t xs h =
     let p = held_parts t xs h in
     ⊎_elim (λ e. subst (λ (u : List ℕ). P u xs) (sym e) (none xs))
     (λ f. subst (P t) (sym p.1) (some t (formed_from t f))) (held_cases t p.0)
 
-pub count_held : (t xs : List ℕ) → held t xs ≡ true → sections_told (read_row t) ≡ count_of (graph_of t)
+pub count_held : (t : List ℕ) (xs : List (Option ℕ)) → held t xs ≡ true → sections_told (read_row t) ≡ count_of (graph_of t)
 count_held = by_text (λ t xs. sections_told (read_row t) ≡ count_of (graph_of t)) (λ xs. ap sections_told none_read) sections_right
 
-pub roots_held : (t xs : List ℕ) → held t xs ≡ true → roots_told (read_row t) ≡ root_count_of (graph_of t)
+pub roots_held : (t : List ℕ) (xs : List (Option ℕ)) → held t xs ≡ true → roots_told (read_row t) ≡ root_count_of (graph_of t)
 roots_held = by_text (λ t xs. roots_told (read_row t) ≡ root_count_of (graph_of t)) (λ xs. ap roots_told none_read) roots_right
 
-pub record_held : (s : ℕ) (t xs : List ℕ) → held t xs ≡ true → record_told (read_row (rows_from t (slice_index xs s))) ≡ record_of (graph_of t) s
+pub record_held : (s : ℕ) (t : List ℕ) (xs : List (Option ℕ)) → held t xs ≡ true → record_told (read_row (rows_from t (slice_index_or xs s None))) ≡ record_of (graph_of t) s
 record_held s =
-    by_text (λ t xs. record_told (read_row (rows_from t (slice_index xs s))) ≡ record_of (graph_of t) s)
-    (λ xs. ap (λ (u : List ℕ). record_told (read_row u)) (none_from (slice_index xs s)) ∙ ap record_told none_read)
+    by_text (λ t xs. record_told (read_row (rows_from t (slice_index_or xs s None))) ≡ record_of (graph_of t) s)
+    (λ xs. ap (λ (u : List ℕ). record_told (read_row u)) (none_from (slice_index_or xs s None)) ∙ ap record_told none_read)
     (λ t f. record_right t f s)
 
-pub byte_held : (s i : ℕ) (t xs : List ℕ) → held t xs ≡ true → byte_in (rows_from t (slice_index xs s)) i ≡ byte_of (graph_of t) s i
+-- what the rows of a section tell, where there are any
+
+rows_told : (t : List ℕ) (start : Option ℕ) (o : Option (List ℕ)) → o ≡ option_map (λ p. drop p t) start → rows_from t start ≡ unwrap_or o []
+rows_told t None o e = ap (λ (x : Option (List ℕ)). unwrap_or x []) (sym e)
+rows_told t (Some p) o e = ap (λ (x : Option (List ℕ)). unwrap_or x []) (sym e)
+
+pub record_some : (s : ℕ) (t : List ℕ) (xs : List (Option ℕ)) (u : List ℕ) → held t xs ≡ true → Some u ≡ option_map (λ p. drop p t) (slice_index_or xs s None)
+    → record_told (read_row u) ≡ record_of (graph_of t) s
+record_some s t xs u h e =
+    ap (λ (v : List ℕ). record_told (read_row v)) (sym (rows_told t (slice_index_or xs s None) (Some u) e)) ∙ record_held s t xs h
+
+pub record_none : (s : ℕ) (t : List ℕ) (xs : List (Option ℕ)) → held t xs ≡ true → None ≡ option_map (λ p. drop p t) (slice_index_or xs s None)
+    → None ≡ record_of (graph_of t) s
+record_none s t xs h e =
+    sym (ap record_told none_read)
+    ∙ ap (λ (v : List ℕ). record_told (read_row v)) (sym (rows_told t (slice_index_or xs s None) None e)) ∙ record_held s t xs h
+
+pub byte_held : (s i : ℕ) (t : List ℕ) (xs : List (Option ℕ)) → held t xs ≡ true → byte_in (rows_from t (slice_index_or xs s None)) i ≡ byte_of (graph_of t) s i
 byte_held s i =
-    by_text (λ t xs. byte_in (rows_from t (slice_index xs s)) i ≡ byte_of (graph_of t) s i)
-    (λ xs. ap (λ (u : List ℕ). byte_in u i) (none_from (slice_index xs s)) ∙ none_byte i)
+    by_text (λ t xs. byte_in (rows_from t (slice_index_or xs s None)) i ≡ byte_of (graph_of t) s i)
+    (λ xs. ap (λ (u : List ℕ). byte_in u i) (none_from (slice_index_or xs s None)) ∙ none_byte i)
     (λ t f. byte_right t f s i)
 
-pub relocation_held : (s j : ℕ) (t xs : List ℕ) → held t xs ≡ true
-    → relocation_in (rows_from t (slice_index xs s)) (record_told (read_row (rows_from t (slice_index xs s)))) j ≡ relocation_of (graph_of t) s j
-relocation_held s j t xs h =
-    ap (λ (r : Option Record). relocation_in (rows_from t (slice_index xs s)) r j) (record_held s t xs h)
-    ∙ by_text (λ t xs. relocation_in (rows_from t (slice_index xs s)) (record_of (graph_of t) s) j ≡ relocation_of (graph_of t) s j) (λ xs. refl) (λ t f. relocation_right t f s j) t xs h
+pub byte_some : (s i : ℕ) (t : List ℕ) (xs : List (Option ℕ)) (u : List ℕ) → held t xs ≡ true → Some u ≡ option_map (λ p. drop p t) (slice_index_or xs s None)
+    → byte_in u i ≡ byte_of (graph_of t) s i
+byte_some s i t xs u h e = ap (λ (v : List ℕ). byte_in v i) (sym (rows_told t (slice_index_or xs s None) (Some u) e)) ∙ byte_held s i t xs h
 
-pub root_held : (j : ℕ) (t xs : List ℕ) → held t xs ≡ true → root_in t (roots_told (read_row t)) j ≡ root_of (graph_of t) j
+pub byte_none : (s i : ℕ) (t : List ℕ) (xs : List (Option ℕ)) → held t xs ≡ true → None ≡ option_map (λ p. drop p t) (slice_index_or xs s None)
+    → None ≡ byte_of (graph_of t) s i
+byte_none s i t xs h e = sym (none_byte i) ∙ ap (λ (v : List ℕ). byte_in v i) (sym (rows_told t (slice_index_or xs s None) None e)) ∙ byte_held s i t xs h
+
+pub relocation_held : (s j : ℕ) (t : List ℕ) (xs : List (Option ℕ)) → held t xs ≡ true
+    → relocation_in (rows_from t (slice_index_or xs s None)) (record_told (read_row (rows_from t (slice_index_or xs s None)))) j ≡ relocation_of (graph_of t) s j
+relocation_held s j t xs h =
+    ap (λ (r : Option Record). relocation_in (rows_from t (slice_index_or xs s None)) r j) (record_held s t xs h)
+    ∙ by_text (λ t xs. relocation_in (rows_from t (slice_index_or xs s None)) (record_of (graph_of t) s) j ≡ relocation_of (graph_of t) s j) (λ xs. refl) (λ t f. relocation_right t f s j) t xs h
+
+pub relocation_some : (s j : ℕ) (t : List ℕ) (xs : List (Option ℕ)) (u : List ℕ) → held t xs ≡ true → Some u ≡ option_map (λ p. drop p t) (slice_index_or xs s None)
+    → relocation_in u (record_told (read_row u)) j ≡ relocation_of (graph_of t) s j
+relocation_some s j t xs u h e =
+    ap (λ (v : List ℕ). relocation_in v (record_told (read_row v)) j) (sym (rows_told t (slice_index_or xs s None) (Some u) e)) ∙ relocation_held s j t xs h
+
+pub relocation_none : (s j : ℕ) (t : List ℕ) (xs : List (Option ℕ)) → held t xs ≡ true → None ≡ option_map (λ p. drop p t) (slice_index_or xs s None)
+    → None ≡ relocation_of (graph_of t) s j
+relocation_none s j t xs h e =
+    sym (ap (λ (x : Result Entry Cause). relocation_in [] (record_told x) j) none_read)
+    ∙ ap (λ (v : List ℕ). relocation_in v (record_told (read_row v)) j) (sym (rows_told t (slice_index_or xs s None) None e)) ∙ relocation_held s j t xs h
+
+pub root_held : (j : ℕ) (t : List ℕ) (xs : List (Option ℕ)) → held t xs ≡ true → root_in t (roots_told (read_row t)) j ≡ root_of (graph_of t) j
 root_held j t xs h =
     ap (λ (k : ℕ). root_in t k j) (roots_held t xs h)
     ∙ by_text (λ t xs. root_in t (root_count_of (graph_of t)) j ≡ root_of (graph_of t) j) (λ xs. no_root j) (λ t f. root_right t f j) t xs h
@@ -76,7 +115,7 @@ empty_valid =
       rooted = tt;
     }
 
-pub valid_held : (t xs : List ℕ) → held t xs ≡ true → Valid (graph_of t)
+pub valid_held : (t : List ℕ) (xs : List (Option ℕ)) → held t xs ≡ true → Valid (graph_of t)
 valid_held t xs h =
     let p = held_parts t xs h in
     ⊎_elim (λ e. subst (λ (u : List ℕ). Valid (graph_of u)) (sym e) empty_valid)

@@ -11,9 +11,8 @@ use Rattle.row.specs.Entry.{Entry, bytes, relocation, root, end, render, Ranged}
 use Rattle.row.specs.Reading.{read_row}
 use Rattle.row.specs.Told.{row_length}
 use Rattle.row.proofs.Rows.{row_reads, render_length, byte_column}
-use Rattle.layout.specs.Layout.{with_bytes, with_relocations, with_roots}
+use Rattle.layout.specs.Layout.{with_bytes, with_relocations, with_roots, bytes_length}
 use Rattle.layout.proofs.Only.{with_bytes_some}
-use Rattle.table.specs.Places.{bytes_length}
 use Rattle.table.specs.Spots.{Stands, stands_next}
 
 -- the row that stands at a place is read there
@@ -41,24 +40,6 @@ next_bytes t at bs rest some h s =
     subst (λ (es : List Entry). Stands t at es) (with_bytes_some bs rest some) s in
     (here, stands_after t at (bytes (take 16 bs)) _ (row_ranged bs some h) here)
 
-length_full : (n : ℕ) → 16 ≤ n → 66 + bytes_length (n - 16) ≡ bytes_length n
-length_full n h =
-    let q : n / 16 ≡ suc ((n - 16) / 16) = omega arith in
-    let r : n % 16 ≡ (n - 16) % 16 = omega arith in
-    (let s : 66 + (66 * ((n - 16) / 16) + cond ((n - 16) % 16 == 0) 0 (2 + 4 * ((n - 16) % 16))) ≡ 66 * suc ((n - 16) / 16) + cond ((n - 16) % 16 == 0) 0 (2 + 4 * ((n - 16) % 16)) = omega arith in s)
-    ∙ ap (λ (x : ℕ). 66 * x + cond ((n - 16) % 16 == 0) 0 (2 + 4 * ((n - 16) % 16))) (sym q)
-    ∙ ap (λ (x : ℕ). 66 * (n / 16) + cond (x == 0) 0 (2 + 4 * x)) (sym r)
-
-length_short : (n : ℕ) → 0 < n → n < 16 → bytes_length n ≡ 2 + 4 * n
-length_short n some few =
-    let q : n / 16 ≡ 0 = omega arith in
-    let r : n % 16 ≡ n = omega arith in
-    let apart : n ≡ 0 → ⊥ = λ (e : n ≡ 0). omega arith in
-    ap (λ (x : ℕ). 66 * x + cond (n % 16 == 0) 0 (2 + 4 * (n % 16))) q
-    ∙ ap (λ (x : ℕ). 66 * 0 + cond (x == 0) 0 (2 + 4 * x)) r
-    ∙ ap (λ (b : Bool). 66 * 0 + cond b 0 (2 + 4 * n)) (ne_eqb n 0 apart)
-    ∙ omega arith
-
 pub past_bytes : (m : ℕ) (t : List ℕ) (at : ℕ) (bs : List ℕ) (rest : List Entry) → length bs ≤ m → AllByRecursion (λ b. b < 2 ^ 8) bs → Stands t at (with_bytes (length bs) bs rest)
     → Stands t (at + bytes_length (length bs)) rest
 past_bytes m t at [] rest few h s = subst (λ (p : ℕ). Stands t p rest) (sym (add-zero at)) s
@@ -75,12 +56,10 @@ past_bytes (suc m) t at (b ∷ bs) rest few h s =
     go (inl short) left =
         let none : length (drop 16 (b ∷ bs)) ≡ 0 = omega arith in
         let took : length (take 16 (b ∷ bs)) ≡ length (b ∷ bs) = simp length-take (omega arith) in
-        ap (λ (x : ℕ). (at + (2 + 4 * length (take 16 (b ∷ bs)))) + bytes_length x) none
-        ∙ omega (arith, length_short (length (b ∷ bs)) (omega arith) short)
+        omega arith
     go (inr full) left =
         let took : length (take 16 (b ∷ bs)) ≡ 16 = simp length-take (omega arith) in
-        ap (λ (x : ℕ). (at + (2 + 4 * length (take 16 (b ∷ bs)))) + bytes_length x) left
-        ∙ omega (arith, length_full (length (b ∷ bs)) full)
+        omega arith
 
 pub byte_spot : (m : ℕ) (t : List ℕ) (at : ℕ) (bs : List ℕ) (rest : List Entry) (i : ℕ) → length bs ≤ m → i < length bs → AllByRecursion (λ b. b < 2 ^ 8) bs → Stands t at (with_bytes (length bs) bs rest)
     → read_column (take 4 (drop (at + (66 * (i / 16) + (1 + 4 * (i % 16)))) t)) ≡ Some (pos (slice_index bs i))

@@ -9,25 +9,31 @@ abbrev pub accepted : List ℕ → Bool
 accepted [] = true
 accepted (b ∷ t) = not (is_some (fault_of (b ∷ t)))
 
-abbrev pub same_numbers : List ℕ → List ℕ → Bool
-same_numbers [] [] = true
-same_numbers [] (y ∷ ys) = false
-same_numbers (x ∷ xs) [] = false
-same_numbers (x ∷ xs) (y ∷ ys) = x == y && same_numbers xs ys
+abbrev pub same_start : Option ℕ → Option ℕ → Bool
+same_start None None = true
+same_start None (Some q) = false
+same_start (Some p) None = false
+same_start (Some p) (Some q) = p == q
+
+abbrev pub same_starts : List (Option ℕ) → List (Option ℕ) → Bool
+same_starts [] [] = true
+same_starts [] (y ∷ ys) = false
+same_starts (x ∷ xs) [] = false
+same_starts (x ∷ xs) (y ∷ ys) = same_start x y && same_starts xs ys
 
 -- the text is accepted, and the starts are its sections'
-unfoldable pub held : List ℕ → List ℕ → Bool
-held t xs = accepted t && same_numbers xs (starts_of t)
+unfoldable pub held : List ℕ → List (Option ℕ) → Bool
+held t xs = accepted t && same_starts xs (starts_of t)
 
 -- what reading a text answers
 abbrev pub outcome : Option Fault → Result (Unit {0}) Fault
 outcome None = Ok tt
 outcome (Some f) = Err f
 
-abbrev pub notes_or : Option Fault → List ℕ → Result (List ℕ) Fault
+abbrev pub notes_or : Option Fault → List (Option ℕ) → Result (List (Option ℕ)) Fault
 notes_or None xs = Ok xs
 notes_or (Some f) xs = Err f
 
 -- the notes on a text that is accepted, or its refusal
-abbrev pub examined : List ℕ → Result (List ℕ) Fault
+abbrev pub examined : List ℕ → Result (List (Option ℕ)) Fault
 examined t = notes_or (fault_of t) (starts_of t)

@@ -7,3 +7,4 @@ pub mod Outcomes
 pub mod Questions
 pub mod Spots
 pub mod Distances
+pub mod Walk

@@ -12,15 +12,15 @@ use Rattle.layout.specs.declared.State.TheVariants.{Start}
 use Rattle.layout.specs.Order.{is_done}
 use Rattle.layout.specs.Reading.{step_line, bad_row, graph_of, dangling_from, bad_row_at, dangling_at, or_else, fault_of}
 use Rattle.table.specs.Notes.{note, noted, no_notes, starts_of, scan_from, scan_after, scanned, loose_from}
-use Rattle.table.specs.Held.{accepted, same_numbers, held, notes_or, examined}
+use Rattle.table.specs.Held.{accepted, same_start, same_starts, held, notes_or, examined}
 use Rattle.table.specs.Questions.{loose_right}
 
 -- the walk notes all, or refuses at the place of the verdict
-abbrev scan_result : Option ℕ → List ℕ → Result (List ℕ) Fault
+abbrev scan_result : Option ℕ → List (Option ℕ) → Result (List (Option ℕ)) Fault
 scan_result None xs = Ok xs
 scan_result (Some p) xs = Err (bad_row_at p)
 
-scan_is : (at : ℕ) (ls : List (List ℕ)) (q : State) (xs : List ℕ) → scan_from at ls q xs ≡ scan_result (place_from step_line is_done at ls q) (noted at ls xs)
+scan_is : (at : ℕ) (ls : List (List ℕ)) (q : State) (xs : List (Option ℕ)) → scan_from at ls q xs ≡ scan_result (place_from step_line is_done at ls q) (noted at ls xs)
 scan_is at [] q xs = go (is_done q)
   where
     go : (b : Bool) → cond b (Ok xs) (Err (bad_row_at at)) ≡ scan_result (cond b None (Some at)) xs
@@ -40,7 +40,7 @@ scanned_is t =
     scan_is 0 (lines t) Start no_notes
     ∙ ap (λ (o : Option ℕ). scan_result o (starts_of t)) (place_is step_line is_done 0 (lines t) Start)
 
-pub scanned_ok : (t xs : List ℕ) → scanned t ≡ Ok xs → (bad_row t ≡ None) × (xs ≡ starts_of t)
+pub scanned_ok : (t : List ℕ) (xs : List (Option ℕ)) → scanned t ≡ Ok xs → (bad_row t ≡ None) × (xs ≡ starts_of t)
 scanned_ok t xs h = go (bad_row t) (sym (scanned_is t) ∙ h)
   where
     go : (o : Option ℕ) → scan_result (option_map (λ k. 0 + row_start (lines t) k) o) (starts_of t) ≡ Ok xs → (o ≡ None) × (xs ≡ starts_of t)
@@ -66,19 +66,29 @@ examined_formed t o b e =
 
 -- what is held
 
-same_refl : (xs : List ℕ) → same_numbers xs xs ≡ true
-same_refl [] = refl
-same_refl (x ∷ xs) = and_from _ _ (eq-eqb x x refl) (same_refl xs)
+same_itself : (p : Option ℕ) → same_start p p ≡ true
+same_itself None = refl
+same_itself (Some p) = eq-eqb p p refl
 
-same_equal : (xs ys : List ℕ) → same_numbers xs ys ≡ true → xs ≡ ys
+start_equal : (p q : Option ℕ) → same_start p q ≡ true → p ≡ q
+start_equal None None h = refl
+start_equal None (Some q) h = absurd (let z : ◌≡◌ {A = ℕ} 0 1 = cc in omega arith)
+start_equal (Some p) None h = absurd (let z : ◌≡◌ {A = ℕ} 0 1 = cc in omega arith)
+start_equal (Some p) (Some q) h = ap (λ (n : ℕ). Some n) (eqb-true p q h)
+
+same_refl : (xs : List (Option ℕ)) → same_starts xs xs ≡ true
+same_refl [] = refl
+same_refl (x ∷ xs) = and_from _ _ (same_itself x) (same_refl xs)
+
+same_equal : (xs ys : List (Option ℕ)) → same_starts xs ys ≡ true → xs ≡ ys
 same_equal [] [] h = refl
 same_equal [] (y ∷ ys) h = absurd (let z : ◌≡◌ {A = ℕ} 0 1 = cc in omega arith)
 same_equal (x ∷ xs) [] h = absurd (let z : ◌≡◌ {A = ℕ} 0 1 = cc in omega arith)
 same_equal (x ∷ xs) (y ∷ ys) h =
     let p = and_parts _ _ h in
-    ap (λ (n : ℕ). n ∷ xs) (eqb-true x y p.0) ∙ ap (λ (zs : List ℕ). y ∷ zs) (same_equal xs ys p.1)
+    ap (λ (n : Option ℕ). n ∷ xs) (start_equal x y p.0) ∙ ap (λ (zs : List (Option ℕ)). y ∷ zs) (same_equal xs ys p.1)
 
-pub held_parts : (t xs : List ℕ) → held t xs ≡ true → (accepted t ≡ true) × (xs ≡ starts_of t)
+pub held_parts : (t : List ℕ) (xs : List (Option ℕ)) → held t xs ≡ true → (accepted t ≡ true) × (xs ≡ starts_of t)
 unfolding held
 held_parts t xs h = let p = and_parts _ _ h in (p.0, same_equal xs (starts_of t) p.1)
 
@@ -86,9 +96,9 @@ accepted_some : (t : List ℕ) → fault_of t ≡ None → accepted t ≡ true
 accepted_some [] h = refl
 accepted_some (b ∷ t) h = ap (λ (o : Option Fault). not (is_some o)) h
 
-pub held_read : (t xs : List ℕ) → fault_of t ≡ None → xs ≡ starts_of t → held t xs ≡ true
+pub held_read : (t : List ℕ) (xs : List (Option ℕ)) → fault_of t ≡ None → xs ≡ starts_of t → held t xs ≡ true
 unfolding held
-held_read t xs f e = and_from _ _ (accepted_some t f) (subst (λ (ys : List ℕ). same_numbers ys (starts_of t) ≡ true) (sym e) (same_refl (starts_of t)))
+held_read t xs f e = and_from _ _ (accepted_some t f) (subst (λ (ys : List (Option ℕ)). same_starts ys (starts_of t) ≡ true) (sym e) (same_refl (starts_of t)))
 
 pub held_none : held [] no_notes ≡ true
 unfolding held
@@ -103,7 +113,7 @@ pub held_cases : (t : List ℕ) → accepted t ≡ true → (t ≡ []) ⊎ (faul
 held_cases [] h = inl refl
 held_cases (b ∷ t) h = inr (accepted_none (fault_of (b ∷ t)) h)
 
-pub examined_ok : (t xs : List ℕ) → examined t ≡ Ok xs → (fault_of t ≡ None) × (xs ≡ starts_of t)
+pub examined_ok : (t : List ℕ) (xs : List (Option ℕ)) → examined t ≡ Ok xs → (fault_of t ≡ None) × (xs ≡ starts_of t)
 examined_ok t xs h = go (fault_of t) h
   where
     go : (o : Option Fault) → notes_or o (starts_of t) ≡ Ok xs → (o ≡ None) × (xs ≡ starts_of t)
@@ -118,8 +128,8 @@ examined_err t f h = go (fault_of t) h
     go (Some e) k = let same : e ≡ f = cc in ap (λ (x : Fault). Some x) same
 
 -- what the second walk found, where the notes are those of the first
-pub examined_loose : (t xs : List ℕ) (o : Option ℕ) → scanned t ≡ Ok xs → o ≡ loose_from xs 0 (lines t) → examined t ≡ notes_or (option_map dangling_at o) xs
+pub examined_loose : (t : List ℕ) (xs : List (Option ℕ)) (o : Option ℕ) → scanned t ≡ Ok xs → o ≡ loose_from xs 0 (lines t) → examined t ≡ notes_or (option_map dangling_at o) xs
 examined_loose t xs o h e =
     let p = scanned_ok t xs h in
-    examined_formed t o p.0 (e ∙ ap (λ (ys : List ℕ). loose_from ys 0 (lines t)) p.1)
+    examined_formed t o p.0 (e ∙ ap (λ (ys : List (Option ℕ)). loose_from ys 0 (lines t)) p.1)
     ∙ ap (notes_or (option_map dangling_at o)) (sym p.1)

@@ -1,11 +1,12 @@
 -- What the reader of a table finds at the places that it computes.
-use Rattle.std.specs.Prelude.{ℕ, zero, suc, ◌+◌, ◌-◌, ◌*◌, ◌/◌, ◌%◌, cond, List, [], length, take, drop, ℤ, pos, negsuc, Some, None, Ok, Err, Option, Result, ◌==◌, nat_lt}
+use Rattle.std.specs.Prelude.{ℕ, ◌+◌, ◌-◌, ◌*◌, ◌/◌, ◌%◌, cond, List, [], length, take, drop, ℤ, pos, negsuc, Some, None, Ok, Err, Option, Result, nat_lt}
 use Rattle.column.specs.Columns.{read_column}
 use Rattle.model.specs.declared.Record.{Record}
 use Rattle.model.specs.declared.Relocation.{Relocation}
 use Rattle.row.specs.declared.Cause.{Cause}
 use Rattle.row.specs.Entry.{Entry, header, section, bytes, relocation, root, end}
 use Rattle.row.specs.Reading.{read_row}
+use Rattle.layout.specs.Layout.{bytes_length}
 
 -- the numbers of the first row: how many sections, and how many roots
 abbrev pub sections_told : Result Entry Cause → ℕ
@@ -53,14 +54,10 @@ root_told (Ok (root t)) = Some t
 root_told (Ok (end k)) = None
 root_told (Err c) = None
 
--- the text from a section's row on; 0 is no start, and then there is none
-abbrev pub rows_from : List ℕ → ℕ → List ℕ
-rows_from t zero = []
-rows_from t (suc p) = drop (suc p) t
-
--- how long the rows of n bytes are
-abbrev pub bytes_length : ℕ → ℕ
-bytes_length n = 66 * (n / 16) + cond (n % 16 == 0) 0 (2 + 4 * (n % 16))
+-- the text from a section's row on, none where there is no such row
+abbrev pub rows_from : List ℕ → Option ℕ → List ℕ
+rows_from t None = []
+rows_from t (Some p) = drop p t
 
 -- where the column of byte i is, from the start of a section's row: 74 is the length of that row
 abbrev pub byte_place : ℕ → ℕ

@@ -20,28 +20,28 @@ use Rattle.row.specs.Entry.{Entry, header, section, relocation, end, numbers, re
 use Rattle.row.specs.Reading.{read_row}
 use Rattle.row.proofs.Rows.{fits}
 use Rattle.row_part.proofs.Parts.{Fits}
-use Rattle.layout.specs.Layout.{with_relocations, with_section, with_sections, with_roots, present_count, entries, text_of, Formed}
+use Rattle.layout.specs.Layout.{with_relocations, with_section, with_sections, with_roots, present_count, bytes_length, entries, text_of, Formed}
 use Rattle.layout.specs.Reading.{bad_row, graph_of, named, absent_in, dangles, dangling_from}
 use Rattle.layout.proofs.Texts.{row_itself, lines_text, formed_text}
 use Rattle.layout.proofs.Ranges.{ranged_entries, count_below}
 use Rattle.layout.proofs.Aims.{present_below}
 use Rattle.table.specs.Notes.{note, noted, no_notes, starts_of, unnoted, loose_on, loose_from}
-use Rattle.table.specs.Places.{sections_told, roots_told, record_told, relocation_told, root_told, rows_from, bytes_length, byte_place, relocation_place, byte_told, size_told, byte_in, relocation_in, root_in}
+use Rattle.table.specs.Places.{sections_told, roots_told, record_told, relocation_told, root_told, rows_from, byte_place, relocation_place, byte_told, size_told, byte_in, relocation_in, root_in}
 use Rattle.table.specs.Spots.{Stands, stands_next, notes, Spot, sections_noted, past_sections}
 use Rattle.table.specs.Distances.{stands_read, stands_after, past_bytes, byte_spot, relocation_spot, root_spot, roots_place}
 
-noted_notes : (at : ℕ) (es : List Entry) (xs : List ℕ) → AllByRecursion Ranged es → noted at (map render es) xs ≡ notes at es xs
+noted_notes : (at : ℕ) (es : List Entry) (xs : List (Option ℕ)) → AllByRecursion Ranged es → noted at (map render es) xs ≡ notes at es xs
 noted_notes at [] xs r = refl
 noted_notes at (e ∷ es) xs r =
     ap (λ (x : Result Entry Cause). noted (at + length (render e)) (map render es) (note x at xs)) (row_itself e r.0)
     ∙ noted_notes (at + length (render e)) es _ r.1
 
-zeros : (v : ℕ) → slice_index no_notes v ≡ 0
-zeros v = go (cases_lt v 1024)
+unset : (v : ℕ) → slice_index_or no_notes v None ≡ None
+unset v = go (cases_lt v 1024)
   where
-    go : (v < 1024) ⊎ (1024 ≤ v) → slice_index no_notes v ≡ 0
-    go (inl l) = get_or-replicate 1024 v 0 0 l
-    go (inr l) = get_or_past no_notes v 0 l
+    go : (v < 1024) ⊎ (1024 ≤ v) → slice_index_or no_notes v None ≡ None
+    go (inl l) = get_or-replicate 1024 v None None l
+    go (inr l) = get_or_past no_notes v None l
 
 -- the fourth number of a section's row is its size
 size_column : (s : ℕ) (r : Record) (t : List ℕ) → Ranged (section s r) → read_column (take 12 (drop 37 (render (section s r) ++ t))) ≡ Some (pos r.size)
@@ -83,17 +83,17 @@ module _ (t : List ℕ) (formed : bad_row t ≡ None) where
   after_first = stands_after t 0 (header (length (graph_of t).sections) (length (graph_of t).roots)) _ first_ranged stands
 
   -- where each section's row begins
-  pub spot_at : (s : ℕ) → Spot t s (section_of (graph_of t) s) (slice_index (starts_of t) s)
+  pub spot_at : (s : ℕ) → Spot t s (section_of (graph_of t) s) (slice_index_or (starts_of t) s None)
   spot_at s =
       let k : ℕ = present_count (graph_of t).sections in
       let e : Entry = header (length (graph_of t).sections) (length (graph_of t).roots) in
       let few : 0 + length (graph_of t).sections ≤ length no_notes = omega (arith, laws.few) in
-      let n = sections_noted t 0 (graph_of t).sections (graph_of t).roots k (0 + length (render e)) no_notes (omega arith)
-      (stands_next t 0 e _ stands) few (λ v l. zeros v) in
+      let n = sections_noted t 0 (graph_of t).sections (graph_of t).roots k (0 + length (render e)) no_notes
+      (stands_next t 0 e _ stands) few (λ v l. unset v) in
       let same : starts_of t ≡ notes 0 (entries (graph_of t)) no_notes =
       ap (λ (ls : List (List ℕ)). noted 0 ls no_notes) rows ∙ noted_notes 0 (entries (graph_of t)) no_notes (ranged_entries (graph_of t) laws) in
-      subst (λ (xs : List ℕ). Spot t s (section_of (graph_of t) s) (slice_index xs s)) (sym same)
-      (subst (λ (u : ℕ). Spot t u (slice_index_or (graph_of t).sections s None) (slice_index (notes 0 (entries (graph_of t)) no_notes) u)) (zero-add s) (n.spots s))
+      subst (λ (xs : List (Option ℕ)). Spot t s (section_of (graph_of t) s) (slice_index_or xs s None)) (sym same)
+      (subst (λ (u : ℕ). Spot t u (slice_index_or (graph_of t).sections s None) (slice_index_or (notes 0 (entries (graph_of t)) no_notes) u None)) (zero-add s) (n.spots s))
 
   pub sections_right : sections_told (read_row t) ≡ length (graph_of t).sections
   sections_right = ap sections_told (stands_read t 0 (header (length (graph_of t).sections) (length (graph_of t).roots)) _ first_ranged stands)
@@ -117,27 +117,23 @@ module _ (t : List ℕ) (formed : bad_row t ≡ None) where
       (λ x r. record { offset = omega (arith, r.offset); kind = r.kind; aimed = r.aimed; low = r.low; high = r.high })
       b.relocations l.relocations
 
-  rows_some : (p : ℕ) → 0 < p → rows_from t p ≡ drop p t
-  rows_some zero h = absurd (omega arith)
-  rows_some (suc p) h = refl
-
   -- the text from a section's row on: none, or the section's rows
   abbrev Rows : ℕ → Option Body → List ℕ → Type 0
   Rows s None u = u ≡ []
   Rows s (Some b) u = (rest : List Entry) × Stands u 0 (with_section s b rest)
 
-  rows_at : (s : ℕ) → Rows s (section_of (graph_of t) s) (rows_from t (slice_index (starts_of t) s))
-  rows_at s = go (section_of (graph_of t) s) (slice_index (starts_of t) s) (spot_at s)
+  rows_at : (s : ℕ) → Rows s (section_of (graph_of t) s) (rows_from t (slice_index_or (starts_of t) s None))
+  rows_at s = go (section_of (graph_of t) s) (slice_index_or (starts_of t) s None) (spot_at s)
     where
-      go : (o : Option Body) (p : ℕ) → Spot t s o p → Rows s o (rows_from t p)
+      go : (o : Option Body) (p : Option ℕ) → Spot t s o p → Rows s o (rows_from t p)
       go None p h = ap (rows_from t) h
-      go (Some b) p h = (h.1, rows_some p h.0 ∙ h.2)
+      go (Some b) p h = (h.2, ap (rows_from t) h.1 ∙ h.3)
 
   record_row : (s : ℕ) (u : List ℕ) (o : Option Body) → section_of (graph_of t) s ≡ o → Rows s o u → record_told (read_row u) ≡ told_record o
   record_row s u None e h = ap (λ (v : List ℕ). record_told (read_row v)) h ∙ ap record_told none_read
   record_row s u (Some b) e h = ap record_told (stands_read u 0 (section s (record_in b)) _ (section_ranged s b e) h.1)
 
-  pub record_right : (s : ℕ) → record_told (read_row (rows_from t (slice_index (starts_of t) s))) ≡ told_record (section_of (graph_of t) s)
+  pub record_right : (s : ℕ) → record_told (read_row (rows_from t (slice_index_or (starts_of t) s None))) ≡ told_record (section_of (graph_of t) s)
   record_right s = record_row s _ (section_of (graph_of t) s) refl (rows_at s)
 
   byte_value : (n : ℕ) → n < 256 → byte_told (Some (pos n)) ≡ Some n
@@ -170,8 +166,8 @@ module _ (t : List ℕ) (formed : bad_row t ≡ None) where
           ap (λ (c : Bool). cond c (byte_told (read_column (take 4 (drop (byte_place i) u)))) None) (le-ltb i (length b.bytes) l)
           ∙ sym (slice_get_past b.bytes i l)
 
-  pub byte_right : (s i : ℕ) → byte_in (rows_from t (slice_index (starts_of t) s)) i ≡ told_byte (section_of (graph_of t) s) i
-  byte_right s i = go (section_of (graph_of t) s) refl (rows_from t (slice_index (starts_of t) s)) (rows_at s)
+  pub byte_right : (s i : ℕ) → byte_in (rows_from t (slice_index_or (starts_of t) s None)) i ≡ told_byte (section_of (graph_of t) s) i
+  byte_right s i = go (section_of (graph_of t) s) refl (rows_from t (slice_index_or (starts_of t) s None)) (rows_at s)
     where
       go : (o : Option Body) → section_of (graph_of t) s ≡ o → (u : List ℕ) → Rows s o u → byte_in u i ≡ told_byte o i
       go None e u h = ap (λ (v : List ℕ). byte_in v i) h ∙ none_byte i
@@ -200,8 +196,8 @@ module _ (t : List ℕ) (formed : bad_row t ≡ None) where
           ap (λ (c : Bool). cond c (relocation_told (read_row (drop (relocation_place (length b.bytes) j) u))) None) (lt-ltb j (length b.relocations) l)
           ∙ ap relocation_told (relocation_spot u (74 + bytes_length (length b.bytes)) b.relocations h.0 j r (relocations_ranged s b e) f there)
 
-  pub relocation_right : (s j : ℕ) → relocation_in (rows_from t (slice_index (starts_of t) s)) (told_record (section_of (graph_of t) s)) j ≡ told_relocation (section_of (graph_of t) s) j
-  relocation_right s j = go (section_of (graph_of t) s) refl (rows_from t (slice_index (starts_of t) s)) (rows_at s)
+  pub relocation_right : (s j : ℕ) → relocation_in (rows_from t (slice_index_or (starts_of t) s None)) (told_record (section_of (graph_of t) s)) j ≡ told_relocation (section_of (graph_of t) s) j
+  relocation_right s j = go (section_of (graph_of t) s) refl (rows_from t (slice_index_or (starts_of t) s None)) (rows_at s)
     where
       go : (o : Option Body) → section_of (graph_of t) s ≡ o → (u : List ℕ) → Rows s o u → relocation_in u (told_record o) j ≡ told_relocation o j
       go None e u h = refl
@@ -233,13 +229,13 @@ module _ (t : List ℕ) (formed : bad_row t ≡ None) where
 
   -- a section has a start exactly if it is present
 
-  start_tells : (o : Option Body) (s p : ℕ) → Spot t s o p → (p == 0) ≡ not (is_some o)
-  start_tells None s p h = eq-eqb p 0 h
-  start_tells (Some b) s p h = let apart : p ≡ 0 → ⊥ = λ (e : p ≡ 0). omega (arith, h.0) in ne_eqb p 0 apart
+  start_tells : (o : Option Body) (s : ℕ) (p : Option ℕ) → Spot t s o p → not (is_some p) ≡ not (is_some o)
+  start_tells None s p h = ap (λ (x : Option ℕ). not (is_some x)) h
+  start_tells (Some b) s p h = ap (λ (x : Option ℕ). not (is_some x)) h.1
 
   unnoted_tells : (n : Option ℕ) → unnoted (starts_of t) n ≡ absent_in (graph_of t) n
   unnoted_tells None = refl
-  unnoted_tells (Some s) = start_tells (section_of (graph_of t) s) s (slice_index (starts_of t) s) (spot_at s)
+  unnoted_tells (Some s) = start_tells (section_of (graph_of t) s) s (slice_index_or (starts_of t) s None) (spot_at s)
 
   loose_rows : (at : ℕ) (es : List Entry) → AllByRecursion Ranged es → loose_from (starts_of t) at (map render es) ≡ dangling_from (graph_of t) at (map render es)
   loose_rows at [] r = refl

@@ -4,10 +4,12 @@ ghost use Rattle.table.specs.Held.{held};
 
 pub(crate) mod reader;
 
-// A section table as it was read, and where the row of each present section begins (0 where it is absent).
+use crate::scan::Starts;
+
+// A section table as it was read, and where the row of each present section begins.
 #[derive(Drop)]
 pub struct Table {
     text: Vec<u8>,
-    starts: [usize; 1024],
+    starts: Starts,
     ghost fit: { held text.items starts ≡ true },
 }

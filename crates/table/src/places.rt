@@ -1,195 +1,150 @@
 // Reading at computed places: rows have known lengths, so no question searches.
-ghost use Rattle.std.specs.Prelude.{◌≡◌, ◌-◌, ◌<◌, length, take, drop};
+ghost use Rattle.std.specs.Prelude.{◌≡◌, ◌-◌, ◌<◌, ◌≤◌, length, take, drop};
 ghost use Rattle.column.specs.Columns.{read_column};
 ghost use Rattle.row.specs.Reading.{read_row};
 ghost use Rattle.table.specs.Places.{sections_told, roots_told, record_told, relocation_told, root_told};
-ghost use Rattle.table.specs.Places.{rows_from, bytes_length, byte_told, size_told, byte_in, relocation_in, root_in};
+ghost use Rattle.table.specs.Places.{byte_told, size_told, byte_in, relocation_in, root_in};
 
 use column::read_column;
+use layout::bytes_length;
 use model::{Record, Relocation};
 use row::{Row, read_row};
 
-// How many sections the first row tells.
-pub(crate) fn section_count(text: &[u8]) -> u16
-    ensures { result ≡ sections_told (read_row text.now) }
-{
-    match read_row(text) {
-        Ok(Row::Header { sections, .. }) => sections,
-        _ => 0,
-    }
+// How many sections there are, and how many roots.
+#[derive(Clone, Copy)]
+pub(crate) struct Counts {
+    pub sections: u16,
+    pub roots: u16,
 }
 
-// How many roots the first row tells.
-pub(crate) fn root_count(text: &[u8]) -> u16
-    ensures { result ≡ roots_told (read_row text.now) }
+// The counts that the first row tells, 0 where there is none.
+pub(crate) fn told_counts(text: &[u8]) -> Counts
+    ensures sections { result.sections ≡ sections_told (read_row text.now) }
+    ensures roots { result.roots ≡ roots_told (read_row text.now) }
 {
-    match read_row(text) {
-        Ok(Row::Header { roots, .. }) => roots,
-        _ => 0,
-    }
+    let Ok(
+        Row::Header {
+            sections,
+            roots,
+            ..
+        },
+    ) = read_row(text)
+    else {
+        return Counts {
+            sections: 0,
+            roots: 0,
+        };
+    };
+    Counts { sections, roots }
 }
 
 // The text from a place on, none past the end.
 fn tail(text: &[u8], at: usize) -> &[u8]
     ensures { result.now ≡ drop at text.now }
 {
-    if at < text.len() {
-        &text[at..]
-    } else {
-        &text[text.len()..]
-    }
+    text.get(at..).unwrap_or(&[])
 }
 
-// The text from a section's row on; 0 is no start.
-pub(crate) fn rows_from(text: &[u8], start: usize) -> &[u8]
-    ensures { result.now ≡ rows_from text.now start }
-{
-    if start == 0 {
-        &text[text.len()..]
-    } else {
-        tail(text, start)
-    }
+// The text from a section's row on: that row, the rows of its bytes and of its relocations, and what follows them.
+#[derive(Clone, Copy)]
+pub(crate) struct SectionRows<'a> {
+    text: &'a [u8],
 }
 
-// The record in a section's row.
-pub(crate) fn record_in(rows: &[u8]) -> Option<Record>
-    ensures { result ≡ record_told (read_row rows.now) }
-{
-    match read_row(rows) {
-        Ok(Row::Section { record, .. }) => Some(record),
-        _ => None,
-    }
-}
-
-// At most the first `count` bytes.
-fn front(text: &[u8], count: usize) -> &[u8]
-    ensures { result.now ≡ take count text.now }
-{
-    if count < text.len() {
-        &text[0..count]
-    } else {
-        text
-    }
-}
-
-// A number as a byte.
-fn as_byte(number: Option<i64>) -> Option<u8>
-    ensures { result ≡ byte_told number }
-{
-    match number {
-        Some(value) => {
-            if value < 0 || value > 255 {
-                None
-            } else {
-                Some(value as u8)
-            }
+impl<'a> SectionRows<'a> {
+    // The rows of the section whose row begins at a place.
+    pub fn at(text: &'a [u8], start: usize) -> SectionRows<'a>
+        ensures { result.text.now ≡ drop start text.entry.now }
+    {
+        SectionRows {
+            text: tail(text, start),
         }
-        None => None,
     }
-}
 
-// The byte in the column at a place.
-fn byte_at(rows: &[u8], at: usize) -> Option<u8>
-    ensures { result ≡ byte_told (read_column (take 4 (drop at rows.now))) }
-{
-    as_byte(read_column(front(tail(rows, at), 4)))
-}
+    // The record in the section's row.
+    pub fn record(&self) -> Option<Record>
+        ensures { result ≡ record_told (read_row self.now.text.now) }
+    {
+        let Ok(Row::Section { record, .. }) = read_row(self.text) else {
+            return None;
+        };
+        Some(record)
+    }
 
-// A number as a count of bytes, 0 where it is none.
-fn as_size(number: Option<i64>) -> u16
-    ensures { result ≡ size_told number }
-{
-    match number {
-        Some(value) => {
-            if value < 0 || value > 65535 {
-                0
-            } else {
-                value as u16
-            }
+    // The number in the columns from a place on.
+    fn column(&self, at: usize, width: usize) -> Option<i64>
+        requires { width ≤ 18 }
+        ensures { result ≡ read_column (take width (drop at self.now.text.now)) }
+    {
+        let rest = tail(self.text, at);
+        read_column(&rest[..width.min(rest.len())])
+    }
+
+    // How many bytes the section's row tells, without reading its other numbers.
+    fn size(&self) -> u16
+        ensures { result ≡ size_told (read_column (take 12 (drop 37 self.now.text.now))) }
+    {
+        self.column(37, 12)
+            .and_then(|number| u16::try_from(number).ok())
+            .unwrap_or(0)
+    }
+
+    // The byte in the four columns from a place on.
+    fn byte_at(&self, at: usize) -> Option<u8>
+        ensures { result ≡ byte_told (read_column (take 4 (drop at self.now.text.now))) }
+    {
+        u8::try_from(self.column(at, 4)?).ok()
+    }
+
+    // Byte `i` of the section.
+    pub fn byte(&self, i: u16) -> Option<u8>
+        ensures { result ≡ byte_in self.now.text.now i }
+    {
+        if i >= self.size() {
+            return None;
         }
-        None => 0,
-    }
-}
-
-// How many bytes a section's row tells, without reading its other numbers.
-fn size_in(rows: &[u8]) -> u16
-    ensures { result ≡ size_told (read_column (take 12 (drop 37 rows.now))) }
-{
-    as_size(read_column(front(tail(rows, 37), 12)))
-}
-
-// Byte `i` of a section, from the section's row on.
-pub(crate) fn byte_in(rows: &[u8], i: u16) -> Option<u8>
-    ensures { result ≡ byte_in rows.now i }
-{
-    if i < size_in(rows) {
         let row = usize::from(i / 16);
         let column = usize::from(i % 16);
-        byte_at(rows, 74 + (66 * row + (1 + 4 * column)))
-    } else {
-        None
+        self.byte_at(74 + (66 * row + (1 + 4 * column)))
     }
-}
 
-// How long the rows of `size` bytes are.
-fn bytes_length(size: u16) -> usize
-    ensures value { result ≡ bytes_length size }
-    ensures bound { result < 1000000 }
-{
-    let full = 66 * usize::from(size / 16);
-    let rest = usize::from(size % 16);
-    if rest == 0 {
-        full
-    } else {
-        full + (2 + 4 * rest)
+    fn relocation_at(&self, at: usize) -> Option<Relocation>
+        ensures { result ≡ relocation_told (read_row (drop at self.now.text.now)) }
+    {
+        let Ok(Row::Relocation { relocation, .. }) = read_row(tail(self.text, at)) else {
+            return None;
+        };
+        Some(relocation)
     }
-}
 
-fn relocation_at(rows: &[u8], at: usize) -> Option<Relocation>
-    ensures { result ≡ relocation_told (read_row (drop at rows.now)) }
-{
-    match read_row(tail(rows, at)) {
-        Ok(Row::Relocation { relocation, .. }) => Some(relocation),
-        _ => None,
-    }
-}
-
-// Relocation `j` of a section, from the section's row on.
-pub(crate) fn relocation_in(rows: &[u8], j: u16) -> Option<Relocation>
-    ensures { result ≡ relocation_in rows.now (record_told (read_row rows.now)) j }
-{
-    match record_in(rows) {
-        Some(section) => {
-            if j < section.relocations {
-                relocation_at(
-                    rows,
-                    (74 + bytes_length(section.size)) + 62 * usize::from(j),
-                )
-            } else {
-                None
-            }
+    // Relocation `j` of the section.
+    pub fn relocation(&self, j: u16) -> Option<Relocation>
+        ensures { result ≡ relocation_in self.now.text.now (record_told (read_row self.now.text.now)) j }
+    {
+        let section = self.record()?;
+        if j >= section.relocations {
+            return None;
         }
-        None => None,
+        self.relocation_at((74 + bytes_length(section.size)) + 62 * usize::from(j))
     }
 }
 
 fn root_at(text: &[u8], at: usize) -> Option<u16>
     ensures { result ≡ root_told (read_row (drop at text.now)) }
 {
-    match read_row(tail(text, at)) {
-        Ok(Row::Root { section, .. }) => Some(section),
-        _ => None,
-    }
+    let Ok(Row::Root { section, .. }) = read_row(tail(text, at)) else {
+        return None;
+    };
+    Some(section)
 }
 
 // Root `j` of `count`, whose rows are the last but one of the text.
 pub(crate) fn root_in(text: &[u8], count: u16, j: u16) -> Option<u16>
     ensures { result ≡ root_in text.now count j }
 {
-    if j < count {
-        let left = 14 * (usize::from(count - j) + 1);
-        root_at(text, text.len().saturating_sub(left))
-    } else {
-        None
+    if j >= count {
+        return None;
     }
+    let left = 14 * (usize::from(count - j) + 1);
+    root_at(text, text.len().saturating_sub(left))
 }

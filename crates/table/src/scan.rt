@@ -1,115 +1,110 @@
-// The one walk over a table's rows that checks them and notes where each section's row begins, and the walk that looks
-// for a row which names a section that is not there.
-ghost use Rattle.std.specs.Prelude.{◌≡◌, ◌<◌, length, slice_index};
+// The rows of a text, and the two walks over them: one checks them and notes where each section's row begins, the other
+// looks for a row that names a section which is not there.
+ghost use Rattle.std.specs.Prelude.{◌≡◌, None, slice_index_or};
 ghost use Rattle.lines.specs.Lines.{lines};
-ghost use Rattle.row.specs.Told.{told, part_of};
-ghost use Rattle.layout.specs.Reading.{aimed, named, bad_row_at};
-ghost use Rattle.table.specs.Notes.{no_notes, note_entry, scanned, Takes, unnoted, loose_from};
+ghost use Rattle.row.specs.Told.{told};
+ghost use Rattle.layout.specs.Reading.{named, bad_row_at};
+ghost use Rattle.table.specs.Notes.{no_notes, note_entry, scanned, unnoted, loose_from};
 
 use fault::{Fault, Kind, Layer};
 use layout::State;
-use model::Target;
+use model::{Relocation, Target};
 use row::{Row, read_row};
+
+// Where the row of each section begins, `None` where there is none.
+pub(crate) type Starts = [Option<usize>; 1024];
 
 fn bad_row(at: usize) -> Fault
     ensures { result ≡ bad_row_at at }
 {
-    Fault {
-        kind: Kind::BadRow,
-        place: at as u64,
-        layer: Layer::Format,
+    Fault::new(Kind::BadRow, at as u64, Layer::Format)
+}
+
+// The rows of a text from a place on, each with the place where it begins; the refusal of a row that does not form ends
+// them.
+#[derive(Drop)]
+pub(crate) struct Rows<'a> {
+    text: &'a [u8],
+    at: usize,
+}
+
+impl<'a> Rows<'a> {
+    // All rows of a text.
+    fn of(text: &'a [u8]) -> Rows<'a>
+        ensures text { result.text.now ≡ text.entry.now }
+        ensures at { result.at ≡ 0 }
+    {
+        Rows { text, at: 0 }
     }
 }
 
-// How long a row is.
-fn width(row: &Row<'_>) -> usize
-    ensures { result ≡ length (part_of row.now) }
-{
-    match row {
-        Row::Header { part, .. } => part.len(),
-        Row::Section { part, .. } => part.len(),
-        Row::Bytes { part, .. } => part.len(),
-        Row::Relocation { part, .. } => part.len(),
-        Row::Root { part, .. } => part.len(),
-        Row::End { part, .. } => part.len(),
+impl<'a> Iterator for Rows<'a> {
+    type Item = Result<(usize, Row<'a>), Fault>;
+
+    ghost use Rattle.std.specs.Prelude.{◌-◌, length};
+    ghost use Rattle.std.specs.Iterator.{at_most};
+    ghost use Rattle.table.specs.Walk.{Gives};
+
+    ghost next_gives = { Gives };
+
+    ghost remaining = { λ s. at_most (length s.text.now - s.at) };
+
+    fn next(&mut self) -> Option<Result<(usize, Row<'a>), Fault>> {
+        let at = self.at;
+        if at >= self.text.len() {
+            return None;
+        }
+        let Ok(row) = read_row(&self.text[at..]) else {
+            self.at = self.text.len();
+            return Some(Err(bad_row(at)));
+        };
+        self.at = at + row.part().len();
+        Some(Ok((at, row)))
     }
 }
 
 // No section has a start.
-pub(crate) fn no_starts() -> [usize; 1024]
+pub(crate) fn no_starts() -> Starts
     ensures { result ≡ no_notes }
 {
-    [0; 1024]
+    [None; 1024]
 }
 
 // Notes where a section's row begins.
-fn note(row: &Row<'_>, at: usize, starts: &mut [usize; 1024])
+fn note(row: &Row<'_>, at: usize, starts: &mut Starts)
     ensures { starts.new ≡ note_entry (told row.now) at starts.old }
 {
     if let Row::Section { number, .. } = row {
         let s = usize::from(*number);
         if s < 1024 {
-            starts[s] = at;
+            starts[s] = Some(at);
         }
     }
 }
 
-// One row: the state after it, and where the next row begins.
-fn take_row(
-    text: &[u8],
-    at: usize,
-    state: &State,
-    starts: &mut [usize; 1024],
-) -> Option<(State, usize)>
-    requires { at < length text.now }
-    ensures { Takes text.now at state.now starts.old starts.new result }
-{
-    let Ok(row) = read_row(&text[at..]) else {
-        return None;
-    };
-    let Some(next) = state.advance(&row) else {
-        return None;
-    };
-    note(&row, at, starts);
-    Some((next, at + width(&row)))
-}
-
 // The starts of the sections' rows, or the refusal of the first row that does not form.
-pub(crate) fn scan(text: &[u8]) -> Result<[usize; 1024], Fault>
+pub(crate) fn scan(text: &[u8]) -> Result<Starts, Fault>
     ensures { result ≡ scanned text.now }
 {
     let mut starts = no_starts();
     let mut state = State::Start;
-    let mut at = 0usize;
-    while at < text.len() {
-        let Some((next, to)) = take_row(text, at, &state, &mut starts) else {
-            return Err(bad_row(at));
-        };
-        state = next;
-        at = to;
+    for placed in Rows::of(text) {
+        let (at, row) = placed?;
+        state = state.advance(&row).ok_or(bad_row(at))?;
+        note(&row, at, &mut starts);
     }
     if state.is_done() {
         Ok(starts)
     } else {
-        Err(bad_row(at))
+        Err(bad_row(text.len()))
     }
 }
 
-// Where the row of section `s` begins, or 0 where it has none.
-pub(crate) fn start(starts: &[usize; 1024], s: u16) -> usize
-    ensures { result ≡ slice_index starts.now s }
+// Where the row of section `s` begins.
+pub(crate) fn start(starts: &Starts, s: u16) -> Option<usize>
+    ensures { result ≡ slice_index_or starts.now s None }
 {
-    let s = usize::from(s);
-    if s < 1024 { starts[s] } else { 0 }
-}
-
-fn aimed(target: &Target) -> Option<u16>
-    ensures { result ≡ aimed target.now }
-{
-    match target {
-        Target::Section(s) => Some(*s),
-        Target::Outside(_) => None,
-    }
+    *starts.get(usize::from(s))?
 }
 
 // The section that a row names besides its own.
@@ -117,34 +112,34 @@ fn named(row: &Row<'_>) -> Option<u16>
     ensures { result ≡ named (told row.now) }
 {
     match row {
-        Row::Relocation { relocation, .. } => aimed(&relocation.target),
+        Row::Relocation {
+            relocation: Relocation {
+                target: Target::Section(s),
+                ..
+            },
+            ..
+        } => Some(*s),
         Row::Root { section, .. } => Some(*section),
         _ => None,
     }
 }
 
-fn names_unnoted(row: &Row<'_>, starts: &[usize; 1024]) -> bool
+// The row names a section without a start.
+fn names_unnoted(row: &Row<'_>, starts: &Starts) -> bool
     ensures { result ≡ unnoted starts.now (named (told row.now)) }
 {
-    match named(row) {
-        Some(s) => start(starts, s) == 0,
-        None => false,
-    }
+    named(row).is_some_and(|s| start(starts, s).is_none())
 }
 
 // The place of the first row that names a section without a start.
-pub(crate) fn dangling(text: &[u8], starts: &[usize; 1024]) -> Option<usize>
+pub(crate) fn dangling(text: &[u8], starts: &Starts) -> Option<usize>
     ensures { result ≡ loose_from starts.now 0 (lines text.now) }
 {
-    let mut at = 0usize;
-    while at < text.len() {
-        let Ok(row) = read_row(&text[at..]) else {
-            return None;
-        };
+    for placed in Rows::of(text) {
+        let (at, row) = placed.ok()?;
         if names_unnoted(&row, starts) {
             return Some(at);
         }
-        at += width(&row);
     }
     None
 }

@@ -1,18 +1,16 @@
 // The calls of the reader, and its questions: it is a section graph.
-ghost use Rattle.std.specs.Prelude.{◌≡◌, slice_index};
+ghost use Rattle.std.specs.Prelude.{◌≡◌, None, drop, slice_index_or};
+ghost use Rattle.std.specs.Option.{option_map};
 ghost use Rattle.model.specs.Graph.{Graph, empty};
 ghost use Rattle.layout.specs.Reading.{fault_of, dangling_at};
 ghost use Rattle.layout.specs.Verdict.{Verdict};
-ghost use Rattle.table.specs.Places.{rows_from};
 ghost use Rattle.table.specs.Held.{outcome, examined};
 ghost use Rattle.table.specs.Meaning.{text_held, graph_held, text_after};
 ghost use Rattle.table.specs.Answering.{valid_held};
 
 use super::Table;
-use crate::places::{
-    byte_in, record_in, relocation_in, root_count, root_in, rows_from, section_count,
-};
-use crate::scan::{dangling, no_starts, scan, start};
+use crate::places::{SectionRows, root_in, told_counts};
+use crate::scan::{Starts, dangling, no_starts, scan, start};
 use fault::{Fault, Kind, Layer};
 use graph::SectionGraph;
 use model::{Record, Relocation};
@@ -21,15 +19,11 @@ use std::alloc::Global;
 fn dangling_row(at: usize) -> Fault
     ensures { result ≡ dangling_at at }
 {
-    Fault {
-        kind: Kind::Dangling,
-        place: at as u64,
-        layer: Layer::Format,
-    }
+    Fault::new(Kind::Dangling, at as u64, Layer::Format)
 }
 
 // The notes on a text that is accepted, or its refusal.
-fn examine(text: &[u8]) -> Result<[usize; 1024], Fault>
+fn examine(text: &[u8]) -> Result<Starts, Fault>
     ensures { result ≡ examined text.now }
 {
     let starts = scan(text)?;
@@ -69,42 +63,42 @@ impl Table {
         self.text.as_slice()
     }
 
-    // The text from the row of section `s` on.
-    fn rows(&self, s: u16) -> &[u8]
-        ensures { result.now ≡ rows_from (text_held self.now) (slice_index self.now.starts s) }
+    // The rows of section `s`.
+    fn rows(&self, s: u16) -> Option<SectionRows<'_>>
+        ensures { option_map (λ r. r.text.now) result ≡ option_map (λ p. drop p (text_held self.now)) (slice_index_or self.now.starts s None) }
     {
-        rows_from(self.text.as_slice(), start(&self.starts, s))
+        let at = start(&self.starts, s)?;
+        Some(SectionRows::at(self.text.as_slice(), at))
     }
 }
 
 impl SectionGraph for Table {
-    ghost sound = { λ _. Unit {0} };
-
     ghost graph = { graph_held };
 
-    ghost valid = { λ x m. valid_held x.text.items x.starts x.fit };
+    ghost valid = { λ x. valid_held x.text.items x.starts x.fit };
 
     fn count(&self) -> u16 {
-        section_count(self.text.as_slice())
+        told_counts(self.text.as_slice()).sections
     }
 
     fn record_of(&self, s: u16) -> Option<Record> {
-        record_in(self.rows(s))
+        self.rows(s)?.record()
     }
 
     fn byte(&self, s: u16, i: u16) -> Option<u8> {
-        byte_in(self.rows(s), i)
+        self.rows(s)?.byte(i)
     }
 
     fn relocation(&self, s: u16, j: u16) -> Option<Relocation> {
-        relocation_in(self.rows(s), j)
+        self.rows(s)?.relocation(j)
     }
 
     fn root_count(&self) -> u16 {
-        root_count(self.text.as_slice())
+        told_counts(self.text.as_slice()).roots
     }
 
     fn root(&self, j: u16) -> Option<u16> {
-        root_in(self.text.as_slice(), root_count(self.text.as_slice()), j)
+        let text = self.text.as_slice();
+        root_in(text, told_counts(text).roots, j)
     }
 }

@@ -1,4 +1,4 @@
-use Rattle.std.proofs.Common.{◌≤◌, length, sym, arith}
+use Rattle.std.proofs.Common.{◌≤◌, length, Some, sym, arith}
 use Rattle.std.proofs.lemmas.List.{set_past}
 use Rattle.table.proofs.scan.note.Goals as goal
 
@@ -6,4 +6,4 @@ use Rattle.table.proofs.scan.note.Goals as goal
 pub returns-else-s-lt1024 : goal.returns-else-s-lt1024
 returns-else-s-lt1024 c =
     let past : length c.args.starts.now ≤ c.in-Section.number = omega arith in
-    rw c.in-Section.is (sym (set_past c.args.starts.now c.in-Section.number c.args.at past))
+    rw c.in-Section.is (sym (set_past c.args.starts.now c.in-Section.number (Some c.args.at) past))

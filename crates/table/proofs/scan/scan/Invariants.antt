@@ -1,14 +1,13 @@
-use Rattle.std.proofs.Common.{◌≡◌, ◌-◌, ◌≤◌, length, drop}
+use Rattle.std.proofs.Common.{◌≡◌, ◌≤◌, length, drop}
 use Rattle.lines.specs.Lines.{lines}
 use Rattle.table.specs.Notes.{scan_from, scanned}
 use Rattle.table.proofs.scan.scan.Given as goal
 
 -- the rows that are left decide
-abbrev pub invariant-loop-at : goal.invariant-loop-at
-invariant-loop-at l =
-    (scan_from l.at (lines (drop l.at l.text)) l.state l.starts ≡ scanned l.text)
-    × (l.at ≤ length l.text)
-    × (length l.starts ≡ 1024)
-
-abbrev pub decreases-loop-at : goal.decreases-loop-at
-decreases-loop-at l = length l.text - l.at
+abbrev pub invariant-loop-placed : goal.invariant-loop-placed
+invariant-loop-placed l =
+    (goal.iterator-loop-placed).can_next l.placed-iterator
+    × (goal.iterator-loop-placed).is_finite l.placed-iterator
+    × (l.placed-iterator.text.now ≡ l.text)
+    × (l.placed-iterator.at ≤ length l.text)
+    × (scan_from l.placed-iterator.at (lines (drop l.placed-iterator.at l.text)) l.state l.starts ≡ scanned l.text)

@@ -1,8 +1,11 @@
-use Rattle.std.proofs.Common.{ℕ, List, vec_items, ap, ◌∙◌}
-use Rattle.row.specs.Reading.{read_row}
-use Rattle.table.specs.Places.{record_told}
-use Rattle.table.specs.Answering.{record_held}
+use Rattle.std.proofs.Common.{vec_items, ◌∙◌}
+use Rattle.table.specs.Answering.{record_some, record_none}
 use Rattle.table.proofs.held.reader.TableSectionGraph.record_of.Goals as goal
 
+pub returns-in_err-rows : goal.returns-in_err-rows
+returns-in_err-rows c = rw c.from_residual.ensures (record_none c.args.s (vec_items c.args.self.now.text) c.args.self.now.starts c.args.self.now.fit c.in_err-rows.ensures)
+
 pub returns : goal.returns
-returns c = c.record_in.ensures ∙ ap (λ (u : List ℕ). record_told (read_row u)) c.rows.ensures ∙ record_held c.args.s (vec_items c.args.self.now.text) c.args.self.now.starts c.args.self.now.fit
+returns c =
+    c.record.ensures
+    ∙ record_some c.args.s (vec_items c.args.self.now.text) c.args.self.now.starts c.in_ok-rows.field-0.text.now c.args.self.now.fit c.in_ok-rows.ensures

@@ -5,4 +5,7 @@ use Rattle.table.specs.Answering.{roots_held}
 use Rattle.table.proofs.held.reader.TableSectionGraph.root_count.Goals as goal
 
 pub returns : goal.returns
-returns c = c.root_count.ensures ∙ ap (λ (t : List ℕ). roots_told (read_row t)) c.as_slice.ensures.value ∙ roots_held (vec_items c.args.self.now.text) c.args.self.now.starts c.args.self.now.fit
+returns c =
+    c.told_counts.ensures.roots
+    ∙ ap (λ (t : List ℕ). roots_told (read_row t)) c.as_slice.ensures.value
+    ∙ roots_held (vec_items c.args.self.now.text) c.args.self.now.starts c.args.self.now.fit
