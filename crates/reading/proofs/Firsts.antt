@@ -1,15 +1,11 @@
 -- The first number that passes.
-use Rattle.std.proofs.Common.{◌≡◌, ℕ, zero, suc, ◌+◌, ◌*◌, ◌<◌, ◌≤◌, Bool, true, false, not, ◌||◌, eqb, leb, List, [], ◌∷◌, length, Some, None, Ok, Option, sym, refl, ◌∙◌, add-one, arith}
+use Rattle.std.proofs.Common.{◌≡◌, ℕ, zero, suc, ◌+◌, ◌<◌, ◌≤◌, Bool, true, false, not, ◌||◌, eqb, leb, List, [], ◌∷◌, length, Some, None, Option, sym, refl, ◌∙◌, add-one, arith}
 use Rattle.std.proofs.lemmas.Bool.{eqb-true, ne_eqb, leb-true, and_parts, or_from}
-use Rattle.field.specs.Fields.{within}
 use Rattle.checklist.specs.Checks.{first_fault, each, all_hold, where_holds}
 use Rattle.checklist.proofs.Checks.{accepts, hold_each}
 use Rattle.elf.specs.declared.Header.{Header}
-use Rattle.elf.specs.Layout.{header_at, place, section, sections}
-use Rattle.rules.specs.declared.Pass.TheVariants.{Extents}
-use Rattle.rules.specs.Known.{Headed}
-use Rattle.rules.specs.Rules.{earlier, first_where, of_kind, only_checks, only_rule, the_only, pass_rule, check, cut_at}
-use Rattle.reading.proofs.Sections.{placed, header_is}
+use Rattle.elf.specs.Layout.{place, section, sections}
+use Rattle.rules.specs.Rules.{earlier, first_where, of_kind, only_checks, only_rule, the_only, extent_rule, check, cut_at}
 
 pub first_where_is : (f : ℕ → Bool) (n i : ℕ) → first_where f n ≡ Some i → (i < n) × (f i ≡ true)
 first_where_is f zero i e = let z : ◌≡◌ {A = ℕ} 0 1 = cc in absurd (omega arith)
@@ -22,26 +18,23 @@ first_where_is f (suc n) i e = go (first_where f n) refl (f n) refl e (first_whe
     go (Some j) q t h e' ih = let r = ih (q ∙ e') in (omega (arith, r.0), r.1)
 
 -- one section in the search for the section of a type
-pub only_turn : (k : ℕ) (b : List ℕ) (first n i : ℕ) (h : Header) (found : Option ℕ) → Headed b first n
-    → Ok h ≡ within b (first + 64 * i) 64 (header_at b (first + 64 * i)) → found ≡ first_where (of_kind k b) i
-    → (only_checks k (first + 64 * i) h found ≡ only_rule k b i) × (earlier found (eqb h.kind k) i ≡ first_where (of_kind k b) (i + 1))
-only_turn k b first n i h found known e f =
-    let p = placed b first n i known
-    in let s = header_is b first n i h known e
-    in (rw (p, s, f), rw (add-one i, s, f))
+pub only_turn : (k : ℕ) (b : List ℕ) (i p : ℕ) (h : Header) (found : Option ℕ) → p ≡ place b i → h ≡ section b i
+    → found ≡ first_where (of_kind k b) i
+    → (only_checks k p h found ≡ only_rule k b i) × (earlier found (eqb h.kind k) i ≡ first_where (of_kind k b) (i + 1))
+only_turn k b i p h found q s f = (rw (q, s, f), rw (add-one i, s, f))
 
 -- the section of a type is one, and what the file holds of it ends within
-pub only_is : (k : ℕ) (b : List ℕ) (first n t : ℕ) → Headed b first n → Some t ≡ the_only k b → (t < n) × ((section b t).kind ≡ k)
-only_is k b first n t known e =
+pub only_is : (k : ℕ) (b : List ℕ) (t : ℕ) → Some t ≡ the_only k b → (t < sections b) × ((section b t).kind ≡ k)
+only_is k b t e =
     let r = first_where_is (of_kind k b) (sections b) t (sym e)
-    in (rw known.count_right r.0, eqb-true (section b t).kind k r.1)
+    in (r.0, eqb-true (section b t).kind k r.1)
 
-pub extent_is : (b : List ℕ) (first n i : ℕ) → Headed b first n → i < n → ((section b i).kind ≡ 0 → ⊥) → ((section b i).kind ≡ 8 → ⊥)
-    → first_fault (each (pass_rule Extents b) n) ≡ None → (section b i).offset + (section b i).size ≤ length b
-extent_is b first n i known h z e f =
+pub extent_is : (b : List ℕ) (i : ℕ) → i < sections b → ((section b i).kind ≡ 0 → ⊥) → ((section b i).kind ≡ 8 → ⊥)
+    → first_fault (each (extent_rule b) (sections b)) ≡ None → (section b i).offset + (section b i).size ≤ length b
+extent_is b i h z e f =
     go (eqb (section b i).kind 0 || eqb (section b i).kind 8)
     (or_from (eqb (section b i).kind 0) (eqb (section b i).kind 8) (ne_eqb (section b i).kind 0 z) (ne_eqb (section b i).kind 8 e))
-    (hold_each (pass_rule Extents b) n i h (accepts (each (pass_rule Extents b) n) f))
+    (hold_each (extent_rule b) (sections b) i h (accepts (each (extent_rule b) (sections b)) f))
   where
     go : (t : Bool) → t ≡ false → all_hold (where_holds (not t) (check (leb ((section b i).offset + (section b i).size) (length b)) (cut_at (place b i + 24)) ∷ [])) ≡ true
         → (section b i).offset + (section b i).size ≤ length b

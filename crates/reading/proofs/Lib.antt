@@ -1,6 +1,5 @@
 pub mod Sections
 pub mod Firsts
-pub mod Parts
 pub mod Parting
 pub mod Turns
 pub mod Scan

@@ -6,10 +6,8 @@ use Rattle.checklist.specs.Checks.{Check, first_fault, all_hold, each, where_hol
 use Rattle.elf.specs.declared.Header.{Header}
 use Rattle.elf.specs.Layout.{place, section, sections, present}
 use Rattle.rules.specs.declared.Part.{Part}
-use Rattle.rules.specs.declared.Pass.TheVariants.{Extents}
-use Rattle.rules.specs.Known.{Headed, Parted}
-use Rattle.rules.specs.Notes.{or_none}
-use Rattle.rules.specs.Rules.{part, earlier, relocates, relocating, part_checks, fit_checks, told_part, table, is_number, pass_rule}
+use Rattle.rules.specs.Known.{Parted}
+use Rattle.rules.specs.Rules.{part, earlier, relocates, relocating, part_checks, fit_checks, told_part, table, is_number, extent_rule}
 use Rattle.reading.proofs.Firsts.{extent_is}
 
 -- what is known of a section with relocations of a present section that passed
@@ -83,9 +81,9 @@ found_here None false i e f = let z : ◌≡◌ {A = ℕ} 0 1 = cc in absurd (om
 found_here (Some j) t i e f = let z : ◌≡◌ {A = ℕ} 0 1 = cc in absurd (omega arith)
 
 -- a section that is told no part notes nothing
-pub parted_same : (b : List ℕ) (i : ℕ) (parts : List ℕ) → told_part b (section b i) ≡ None → Parted b i parts → Parted b (i + 1) parts
+pub parted_same : (b : List ℕ) (i : ℕ) (parts : List (Option ℕ)) → told_part b (section b i) ≡ None → Parted b i parts → Parted b (i + 1) parts
 parted_same b i parts e known t h =
-    rw (add-one i) (known t h ∙ ap or_none (sym (same_earlier (part b t i) (relocates b t i) i (no (told_none b (section b i) e) (cases_eq (section b i).info t)))))
+    rw (add-one i) (known t h ∙ sym (same_earlier (part b t i) (relocates b t i) i (no (told_none b (section b i) e) (cases_eq (section b i).info t))))
   where
     no : (relocating (section b i) && present (section b (section b i).info)) ≡ false → ((section b i).info ≡ t) ⊎ ((section b i).info ≡ t → ⊥) → relocates b t i ≡ false
     no f (inl q) = go (and_cases (relocating (section b i)) (present (section b (section b i).info)) f)
@@ -96,9 +94,9 @@ parted_same b i parts e known t h =
     no f (inr q) = and_right (relocating (section b i)) (eqb (section b i).info t && present (section b t)) (and_left (eqb (section b i).info t) (present (section b t)) (ne_eqb (section b i).info t q))
 
 -- a part that is told is noted for its target
-pub parted_more : (b : List ℕ) (i : ℕ) (parts : List ℕ) (m : Part) → told_part b (section b i) ≡ Some m
+pub parted_more : (b : List ℕ) (i : ℕ) (parts : List (Option ℕ)) (m : Part) → told_part b (section b i) ≡ Some m
     → all_hold (part_checks b i (place b i) (section b i)) ≡ true → length parts ≡ 1024 → sections b ≤ 1024
-    → Parted b i parts → (m.target < 1024) × Parted b (i + 1) (set parts m.target i)
+    → Parted b i parts → (m.target < 1024) × Parted b (i + 1) (set parts m.target (Some i))
 parted_more b i parts m e a len few known =
     let told = told_is b (section b i) m e
     in let fit = passed b i (place b i) (section b i) told.0 told.1 a
@@ -111,7 +109,7 @@ parted_more b i parts m e a len few known =
   where
     go : relocating (section b i) ≡ true → present (section b (section b i).info) ≡ true → part b (section b i).info i ≡ None
         → (section b i).info < 1024 → (t : ℕ) → t < 1024 → ((section b i).info ≡ t) ⊎ ((section b i).info ≡ t → ⊥)
-        → get_or (set parts (section b i).info i) t 0 ≡ or_none (earlier (part b t i) (relocates b t i) i)
+        → get_or (set parts (section b i).info (Some i)) t None ≡ earlier (part b t i) (relocates b t i) i
     go r q alone low t h (inl s) =
         let here : present (section b t) ≡ true = ap (λ (x : ℕ). present (section b x)) (sym s) ∙ q
         in let yes : relocates b t i ≡ true
@@ -119,22 +117,22 @@ parted_more b i parts m e a len few known =
         (and_from (eqb (section b i).info t) (present (section b t)) (eq-eqb (section b i).info t s) here)
         in let none : part b t i ≡ None = ap (λ (x : ℕ). part b x i) (sym s) ∙ alone
         in let fits : t < length parts = omega arith
-        in let same : get_or (set parts (section b i).info i) t 0 ≡ i
-        = ap (λ (x : ℕ). get_or (set parts x i) t 0) s ∙ get_or-set_same parts t i 0 fits
-        in same ∙ sym (ap or_none (found_here (part b t i) (relocates b t i) i none yes))
+        in let same : get_or (set parts (section b i).info (Some i)) t None ≡ Some i
+        = ap (λ (x : ℕ). get_or (set parts x (Some i)) t None) s ∙ get_or-set_same parts t (Some i) None fits
+        in same ∙ sym (found_here (part b t i) (relocates b t i) i none yes)
     go r q alone low t h (inr s) =
         let no : relocates b t i ≡ false
         = and_right (relocating (section b i)) (eqb (section b i).info t && present (section b t))
         (and_left (eqb (section b i).info t) (present (section b t)) (ne_eqb (section b i).info t s))
         in let other : t ≢ (section b i).info = λ x. s (sym x)
-        in get_or-set_other parts (section b i).info t i 0 other ∙ (known t h ∙ ap or_none (sym (same_earlier (part b t i) (relocates b t i) i no)))
+        in get_or-set_other parts (section b i).info t (Some i) None other ∙ (known t h ∙ sym (same_earlier (part b t i) (relocates b t i) i no))
 
 -- the entries of a part that is told stand in the file
-pub part_ends : (b : List ℕ) (first n i : ℕ) (m : Part) → Headed b first n → i < n → told_part b (section b i) ≡ Some m
-    → first_fault (each (pass_rule Extents b) n) ≡ None → m.from + 24 * m.count ≤ length b
-part_ends b first n i m known lt e f =
+pub part_ends : (b : List ℕ) (i : ℕ) (m : Part) → i < sections b → told_part b (section b i) ≡ Some m
+    → first_fault (each (extent_rule b) (sections b)) ≡ None → m.from + 24 * m.count ≤ length b
+part_ends b i m lt e f =
     let told = told_is b (section b i) m e
-    in let ends = extent_is b first n i known lt
+    in let ends = extent_is b i lt
     (λ z. no (section b i).kind 0 told.0 z (λ q. omega arith) (λ q. omega arith))
     (λ z. no (section b i).kind 8 told.0 z (λ q. omega arith) (λ q. omega arith)) f
     in let count : m.count ≡ (section b i).size / 24 = ap (λ (x : Part). x.count) told.2

@@ -2,9 +2,8 @@
 use Rattle.std.proofs.Common.{◌≡◌, ℕ, zero, suc, ◌+◌, ◌-◌, ◌*◌, ◌^◌, ◌<◌, ◌≤◌, Bool, true, false, cond, not, ◌&&◌, ◌||◌, eqb, ltb, leb, ◌≢◌, ◌⊎◌, List, [], ◌∷◌, map, length, get_or, drop, set, replicate, Some, None, Ok, Err, Option, Result, sym, refl, ap, ◌∙◌, inl, inr, arith}
 use Rattle.fault.specs.declared.Fault.{Fault}
 use Rattle.field.specs.declared.Number.{Number}
-use Rattle.field.specs.declared.Gathered.{Gathered}
-use Rattle.field.specs.declared.Gathered.TheVariants.{More, Whole}
-use Rattle.field.specs.Uleb.{decoded, limited, number_at, misshapen, gathered, none_yet}
+use Rattle.std.specs.declared.ops.ControlFlow.TheVariants.{Continue, Break}
+use Rattle.field.specs.Uleb.{decoded, limited, number_at, misshapen, Gathered, gathered, none_yet}
 use Rattle.field.proofs.Onward.{prefixed, pending, Steps, stepped, some_taken}
 use Rattle.std.specs.List.{range_with_len}
 use Rattle.std.proofs.lemmas.Bool.{cases_eq, eq-eqb, ne_eqb, lt-ltb, le-ltb, cases_lt}
@@ -104,8 +103,8 @@ unrolled (suc k) v from p x xs z = go (pending (suc k) v from (x ∷ xs)) refl
 -- what one byte more makes of what is left
 abbrev pub Turn : ℕ → ℕ → ℕ → List Item → List ℕ → Result Gathered Fault → Type 0
 Turn count from p its xs (Err f) = first_fault (item_checks count its) ≡ Some f
-Turn count from p its xs (Ok (Whole m)) = its ≡ (record { place = from; number = Ok m } ∷ items (Some 0) (suc p) xs)
-Turn count from p its xs (Ok (More m)) =
+Turn count from p its xs (Ok (Break m)) = its ≡ (record { place = from; number = Ok m } ∷ items (Some 0) (suc p) xs)
+Turn count from p its xs (Ok (Continue m)) =
     (m.taken ≤ 4) × (m.value < 128 ^ m.taken) × (its ≡ rest m.taken m.value from (suc p) xs)
 
 turned : (count : ℕ) (n : Number) (from p x : ℕ) (xs : List ℕ) (r : Result Gathered Fault) → n.taken ≤ 4 → n.value < 128 ^ n.taken → x < 256
@@ -128,11 +127,11 @@ turned count n from p x xs r h l b e =
         let g : Result Number Fault → List Item = λ y. record { place = began n.taken p from; number = y } ∷ items (left_of y (suc n.taken)) (suc p) xs
         in ap (λ (i : List Item). first_fault (item_checks count i)) (u ∙ ap g s)
         ∙ ap Some (refused_is (prefixed n.taken n.value (decoded (x ∷ xs))) (began n.taken p from) f s)
-    go (Ok (Whole m)) u s =
+    go (Ok (Break m)) u s =
         let g : Result Number Fault → List Item = λ y. record { place = began n.taken p from; number = y } ∷ items (left_of y (suc n.taken)) (suc p) xs
         in let d : m.taken - suc n.taken ≡ 0 = omega (arith, s.1)
         in u ∙ (ap g s.0 ∙ ap (λ (j : ℕ). record { place = began n.taken p from; number = Ok m } ∷ items (Some j) (suc p) xs) d)
-    go (Ok (More m)) u s =
+    go (Ok (Continue m)) u s =
         let g : Result Number Fault → List Item = λ y. record { place = began n.taken p from; number = y } ∷ items (left_of y (suc n.taken)) (suc p) xs
         in rw s.0 (s.1, s.2, u ∙ ap g s.3)
 
@@ -209,10 +208,10 @@ module _ (b : List ℕ) (base : ℕ) (bytes : List ℕ) (i : ℕ) (n : Number) (
 
   -- the number goes on
   pub goes_on : (m : Number) → Scanned b base bytes i n from marks → i < length bytes → get_or bytes i 0 < 256
-      → Ok (More m) ≡ gathered n (get_or bytes i 0) (began n.taken (base + i) from)
+      → Ok (Continue m) ≡ gathered n (get_or bytes i 0) (began n.taken (base + i) from)
       → Scanned b base bytes (i + 1) m (began n.taken (base + i) from) marks
   goes_on m w lt x e =
-      let t = turn_at (Ok (More m)) w lt x e
+      let t = turn_at (Ok (Continue m)) w lt x e
       in let same : rest n.taken n.value from (base + i) (drop i bytes) ≡ rest m.taken m.value (began n.taken (base + i) from) (base + (i + 1)) (drop (i + 1) bytes)
       = t.2 ∙ ap (λ (p : ℕ). rest m.taken m.value (began n.taken (base + i) from) p (drop (i + 1) bytes)) next
       in record {
@@ -224,16 +223,16 @@ module _ (b : List ℕ) (base : ℕ) (bytes : List ℕ) (i : ℕ) (n : Number) (
       }
 
   ended : (m : Number) → Scanned b base bytes i n from marks → i < length bytes → get_or bytes i 0 < 256
-      → Ok (Whole m) ≡ gathered n (get_or bytes i 0) (began n.taken (base + i) from)
+      → Ok (Break m) ≡ gathered n (get_or bytes i 0) (began n.taken (base + i) from)
       → rest n.taken n.value from (base + i) (drop i bytes)
       ≡ (record { place = began n.taken (base + i) from; number = Ok m } ∷ items (Some 0) (base + (i + 1)) (drop (i + 1) bytes))
   ended m w lt x e =
-      turn_at (Ok (Whole m)) w lt x e
+      turn_at (Ok (Break m)) w lt x e
       ∙ ap (λ (p : ℕ). record { place = began n.taken (base + i) from; number = Ok m } ∷ items (Some 0) p (drop (i + 1) bytes)) next
 
   -- the number is whole, and no symbol
   pub no_symbol : (f : Fault) (m : Number) → Scanned b base bytes i n from marks → i < length bytes → get_or bytes i 0 < 256
-      → Ok (Whole m) ≡ gathered n (get_or bytes i 0) (began n.taken (base + i) from)
+      → Ok (Break m) ≡ gathered n (get_or bytes i 0) (began n.taken (base + i) from)
       → first_fault (number_checks (symbols b).count (began n.taken (base + i) from) (Ok m)) ≡ Some f
       → first_fault (item_checks (symbols b).count (all base bytes)) ≡ Some f
   no_symbol f m w lt x e g =
@@ -244,7 +243,7 @@ module _ (b : List ℕ) (base : ℕ) (bytes : List ℕ) (i : ℕ) (n : Number) (
 
   -- the number is whole, and a symbol
   pub is_whole : (m : Number) → Scanned b base bytes i n from marks → i < length bytes → get_or bytes i 0 < 256
-      → Ok (Whole m) ≡ gathered n (get_or bytes i 0) (began n.taken (base + i) from)
+      → Ok (Break m) ≡ gathered n (get_or bytes i 0) (began n.taken (base + i) from)
       → first_fault (number_checks (symbols b).count (began n.taken (base + i) from) (Ok m)) ≡ None
       → Scanned b base bytes (i + 1) none_yet (began n.taken (base + i) from) (marked (symbol b m.value) marks)
   is_whole m w lt x e g =

@@ -1,29 +1,12 @@
--- The steps of a loop over sections.
-use Rattle.std.proofs.Common.{◌≡◌, ℕ, ◌+◌, ◌*◌, List, length, Ok, Option, sym, ap, ◌∙◌}
+-- What was found of one section in a pass.
+use Rattle.std.proofs.Common.{◌≡◌, ℕ, List, Option, sym, ap, ◌∙◌}
 use Rattle.fault.specs.declared.Fault.{Fault}
-use Rattle.checklist.specs.Checks.{first_fault}
-use Rattle.field.specs.Fields.{within}
-use Rattle.field.proofs.Within.{read_is}
+use Rattle.checklist.specs.Checks.{Check, first_fault}
 use Rattle.elf.specs.declared.Header.{Header}
-use Rattle.elf.specs.Layout.{header_at, place, section}
-use Rattle.rules.specs.declared.Pass.{Pass}
-use Rattle.rules.specs.Rules.{pass_checks, pass_rule}
-use Rattle.rules.specs.Known.{Headed}
+use Rattle.elf.specs.Layout.{place, section}
+use Rattle.rules.specs.Rules.{pass_rule}
 
--- the place of a header
-pub placed : (b : List ℕ) (first n i : ℕ) → Headed b first n → first + 64 * i ≡ place b i
-placed b first n i k = ap (λ (x : ℕ). x + 64 * i) k.first_right
-
--- the header that was read
-pub header_is : (b : List ℕ) (first n i : ℕ) (h : Header) → Headed b first n
-    → Ok h ≡ within b (first + 64 * i) 64 (header_at b (first + 64 * i)) → h ≡ section b i
-header_is b first n i h k e =
-    read_is b (first + 64 * i) 64 h (header_at b (first + 64 * i)) e ∙ ap (header_at b) (placed b first n i k)
-
--- what was found of one section in a pass
-pub pass_found : (a : Pass) (b : List ℕ) (first n i : ℕ) (h : Header) (o : Option Fault) → Headed b first n
-    → Ok h ≡ within b (first + 64 * i) 64 (header_at b (first + 64 * i))
-    → first_fault (pass_checks a (length b) (first + 64 * i) h) ≡ o → first_fault (pass_rule a b i) ≡ o
-pass_found a b first n i h o k e g =
-    ap (λ (p : ℕ). first_fault (pass_checks a (length b) p (section b i))) (sym (placed b first n i k))
-    ∙ (ap (λ (x : Header). first_fault (pass_checks a (length b) (first + 64 * i) x)) (sym (header_is b first n i h k e)) ∙ g)
+pub pass_found : (cs : ℕ → Header → List Check) (b : List ℕ) (i p : ℕ) (h : Header) (o : Option Fault) → p ≡ place b i → h ≡ section b i
+    → first_fault (cs p h) ≡ o → first_fault (pass_rule cs b i) ≡ o
+pass_found cs b i p h o q s e =
+    ap (λ (x : ℕ). first_fault (cs x (section b i))) (sym q) ∙ (ap (λ (x : Header). first_fault (cs p x)) (sym s) ∙ e)

@@ -14,15 +14,15 @@ use Rattle.checklist.specs.Checks.{first_fault, each}
 use Rattle.elf.specs.Layout.{place, section}
 use Rattle.rules.specs.declared.Part.{Part}
 use Rattle.rules.specs.Known.{Parted}
-use Rattle.rules.specs.Rules.{relocation_rule, part_checks, told_part, entry_rule}
+use Rattle.rules.specs.Rules.{part, relocation_rule, part_checks, told_part, entry_rule}
 
-pub record Between (b : List ℕ) (i : ℕ) (bad : Option Fault) (parts : List ℕ) : Type 0 where
+pub record Between (b : List ℕ) (i : ℕ) (bad : Option Fault) (parts : List (Option ℕ)) : Type 0 where
   pub none : bad ≡ None
   pub size : length parts ≡ 1024
   pub noted : Parted b i parts
   pub clear : first_fault (each (relocation_rule b) i) ≡ None
 
-pub record Within (b : List ℕ) (i : ℕ) (bad : Option Fault) (parts : List ℕ) (m : Part) (j : ℕ) : Type 0 where
+pub record Within (b : List ℕ) (i : ℕ) (bad : Option Fault) (parts : List (Option ℕ)) (m : Part) (j : ℕ) : Type 0 where
   pub none : bad ≡ None
   pub size : length parts ≡ 1024
   pub noted : Parted b (i + 1) parts
@@ -31,9 +31,9 @@ pub record Within (b : List ℕ) (i : ℕ) (bad : Option Fault) (parts : List �
   pub told : told_part b (section b i) ≡ Some m
   pub entries : first_fault (each (entry_rule b m.size m.from) j) ≡ None
 
-pub start : (b : List ℕ) → Between b 0 None (replicate 1024 65535)
+pub start : (b : List ℕ) → Between b 0 None (replicate 1024 None)
 start b =
-    record { none = refl; size = length-replicate {A = ℕ} 1024 65535; noted = λ t h. get_or-replicate {A = ℕ} 1024 t 65535 0 h; clear = refl }
+    record { none = refl; size = length-replicate {A = Option ℕ} 1024 None; noted = λ t h. get_or-replicate {A = Option ℕ} 1024 t None None h; clear = refl }
 
 -- the checks of a section, of which the part is told
 whole : (b : List ℕ) (i : ℕ) (o : Option Part) → told_part b (section b i) ≡ o
@@ -41,12 +41,12 @@ whole : (b : List ℕ) (i : ℕ) (o : Option Part) → told_part b (section b i)
 whole b i o e = ap (λ (x : Option Part). first_fault (part_checks b i (place b i) (section b i) ++ entry_rules b x)) e
 
 -- after the last section
-pub ended : (b : List ℕ) (i n : ℕ) (refused : Option Fault) (parts : List ℕ) → Between b i refused parts → i ≡ n
+pub ended : (b : List ℕ) (i n : ℕ) (refused : Option Fault) (parts : List (Option ℕ)) → Between b i refused parts → i ≡ n
     → (first_fault (each (relocation_rule b) n) ≡ None) × (parts ≡ map (part_note b n) (range_with_len 0 1024))
 ended b i n refused parts w e =
-    (rw e at w.clear, fill_by_all (part_note b n) parts 1024 0 w.size (λ t h. w.noted t h ∙ ap (λ (x : ℕ). part_note b x t) e))
+    (rw e at w.clear, fill_by_all (part_note b n) parts 1024 None w.size (λ t h. w.noted t h ∙ ap (λ (x : ℕ). part b t x) e))
 
-module _ (b : List ℕ) (i : ℕ) (refused : Option Fault) (parts : List ℕ) where
+module _ (b : List ℕ) (i : ℕ) (refused : Option Fault) (parts : List (Option ℕ)) where
   -- a section without relocations that count
   pub passed_over : Between b i refused parts
       → Ok None ≡ answer (first_fault (part_checks b i (place b i) (section b i))) (told_part b (section b i)) → Between b (i + 1) refused parts
@@ -63,7 +63,7 @@ module _ (b : List ℕ) (i : ℕ) (refused : Option Fault) (parts : List ℕ) wh
   -- a section with relocations
   pub into : (m : Part) → Between b i refused parts → sections b ≤ 1024
       → Ok (Some m) ≡ answer (first_fault (part_checks b i (place b i) (section b i))) (told_part b (section b i))
-      → (m.target < 1024) × Within b i refused (set parts m.target i) m 0
+      → (m.target < 1024) × Within b i refused (set parts m.target (Some i)) m 0
   into m w few e =
       let k = ok_none (first_fault (part_checks b i (place b i) (section b i))) (Some m) (told_part b (section b i)) e
       in let more = parted_more b i parts m (sym k.1) (accepts (part_checks b i (place b i) (section b i)) k.0) w.size few w.noted
@@ -71,7 +71,7 @@ module _ (b : List ℕ) (i : ℕ) (refused : Option Fault) (parts : List ℕ) wh
         more.0,
         record {
           none = w.none;
-          size = length-set parts m.target i ∙ w.size;
+          size = length-set parts m.target (Some i) ∙ w.size;
           noted = more.1;
           clear = w.clear;
           passed = k.0;

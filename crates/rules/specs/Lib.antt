@@ -3,3 +3,4 @@ pub mod Known
 pub mod Listing
 pub mod Verdict
 pub mod Notes
+pub mod Ending

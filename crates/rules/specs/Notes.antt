@@ -1,21 +1,16 @@
 -- What is noted of an object while it is checked, so that no question about it has to search.
-use Rattle.std.specs.Prelude.{◌≡◌, ℕ, ◌≤◌, Bool, List, map, take, is_some, Some, None, filter, Option}
+use Rattle.std.specs.Prelude.{◌≡◌, ℕ, Bool, List, map, is_some, filter, Option}
 use Rattle.std.specs.List.{range_with_len}
 use Rattle.elf.specs.Layout.{sections, section, root}
 use Rattle.rules.specs.Rules.{symbols, part}
 use Rattle.rules.specs.Listing.{Item, significance, listing, lists}
 use Rattle.rules.specs.declared.Notes.{Notes}
 
--- a number that may be missing, as 16 bits that no section number has
-abbrev pub or_none : Option ℕ → ℕ
-or_none None = 65535
-or_none (Some i) = i
-
 -- the section with the relocations of section t
-abbrev pub part_note : List ℕ → ℕ → ℕ → ℕ
-part_note b n t = or_none (part b t n)
+abbrev pub part_note : List ℕ → ℕ → ℕ → Option ℕ
+part_note b n t = part b t n
 
-abbrev pub parts : List ℕ → List ℕ
+abbrev pub parts : List ℕ → List (Option ℕ)
 parts b = map (part_note b (sections b)) (range_with_len 0 1024)
 
 -- whether one of these numbers is a symbol that is defined in section s
@@ -37,5 +32,4 @@ pub record Noted (b : List ℕ) (x : Notes) : Type 0 where
   pub parts_right : x.parts ≡ parts b
   pub listing_right : x.significant ≡ is_some (significance b)
   pub marks_right : x.listed ≡ marks b
-  pub few_roots : x.count ≤ 1024
-  pub roots_right : take x.count x.roots ≡ roots b
+  pub roots_right : x.roots.items ≡ roots b

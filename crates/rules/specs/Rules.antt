@@ -10,8 +10,6 @@ use Rattle.elf.specs.declared.Header.{Header}
 use Rattle.elf.specs.declared.Symbol.{Symbol}
 use Rattle.elf.specs.declared.Entry.{Entry}
 use Rattle.elf.specs.Layout.{symbol_at, entry_at, sections, place, section, present, outside, aligned}
-use Rattle.rules.specs.declared.Pass.{Pass}
-use Rattle.rules.specs.declared.Pass.TheVariants.{Extents, Contents}
 use Rattle.rules.specs.declared.Symbols.{Symbols}
 use Rattle.rules.specs.declared.Part.{Part}
 
@@ -55,6 +53,7 @@ extent_checks len p h =
     (not (h.kind == 0 || h.kind == 8))
     (check (nat_le (h.offset + h.size) len) (cut_at (p + 24)) ∷ [])
 
+-- a present section is in range
 abbrev pub content_checks : ℕ → Header → List Check
 content_checks p h =
     where_holds
@@ -64,12 +63,15 @@ content_checks p h =
     ∷ check (aligned h.alignment) (fault_at Misshapen (p + 48))
     ∷ [])
 
-abbrev pub pass_checks : Pass → ℕ → ℕ → Header → List Check
-pass_checks Extents len p h = extent_checks len p h
-pass_checks Contents len p h = content_checks p h
+-- the checks of section i in a pass over all sections, each by its header and the place of it
+abbrev pub pass_rule : (ℕ → Header → List Check) → List ℕ → ℕ → List Check
+pass_rule checks b i = checks (place b i) (section b i)
 
-abbrev pub pass_rule : Pass → List ℕ → ℕ → List Check
-pass_rule a b i = pass_checks a (length b) (place b i) (section b i)
+abbrev pub extent_rule : List ℕ → ℕ → List Check
+extent_rule b i = pass_rule (extent_checks (length b)) b i
+
+abbrev pub content_rule : List ℕ → ℕ → List Check
+content_rule b i = pass_rule content_checks b i
 
 -- a section that there may be only one of
 

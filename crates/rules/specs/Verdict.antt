@@ -3,8 +3,7 @@ use Rattle.std.specs.Prelude.{ℕ, Bool, List, ◌++◌, Option}
 use Rattle.fault.specs.declared.Fault.{Fault}
 use Rattle.checklist.specs.Checks.{Check, first_fault, all_hold, each}
 use Rattle.elf.specs.Layout.{sections}
-use Rattle.rules.specs.declared.Pass.TheVariants.{Extents, Contents}
-use Rattle.rules.specs.Rules.{head_rule, pass_rule, only_rule, table_rule, relocation_rule}
+use Rattle.rules.specs.Rules.{head_rule, extent_rule, content_rule, only_rule, table_rule, relocation_rule}
 use Rattle.rules.specs.Listing.{listing_rule, significance_kind}
 
 -- the rules from the last back to all of them
@@ -22,10 +21,10 @@ abbrev pub from_only_table : List ℕ → List Check
 from_only_table b = each (only_rule 2 b) (sections b) ++ from_table b
 
 abbrev pub from_contents : List ℕ → List Check
-from_contents b = each (pass_rule Contents b) (sections b) ++ from_only_table b
+from_contents b = each (content_rule b) (sections b) ++ from_only_table b
 
 abbrev pub from_extents : List ℕ → List Check
-from_extents b = each (pass_rule Extents b) (sections b) ++ from_contents b
+from_extents b = each (extent_rule b) (sections b) ++ from_contents b
 
 -- the checks of an object in their order
 abbrev pub checks : List ℕ → List Check

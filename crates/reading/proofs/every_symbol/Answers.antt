@@ -11,7 +11,7 @@ use Rattle.reading.proofs.every_symbol.Goals as goal
 pub returns-in_err-symbol_rule : goal.returns-in_err-symbol_rule
 returns-in_err-symbol_rule c =
     let f = c.in_err-symbol_rule.field-0.0
-    in let b = c.args.b.now
+    in let b = c.args.headers.bytes.now
     in let q : ℕ = c.args.from + 24 * c.loop-j.j
     in let s = read_is b q 16 c.in_ok-s.s (symbol_at b q) c.in_ok-s.ensures
     in let found = err_some (first_fault (symbol_checks b q c.in_ok-s.s)) f tt c.in_err-symbol_rule.ensures
@@ -23,7 +23,7 @@ returns-in_err-symbol_rule c =
 
 pub loop-j-preserved : goal.loop-j-preserved
 loop-j-preserved c =
-    let b = c.args.b.now
+    let b = c.args.headers.bytes.now
     in let q : ℕ = c.args.from + 24 * c.loop-j.j
     in let s = read_is b q 16 c.in_ok-s.s (symbol_at b q) c.in_ok-s.ensures
     in let none = ok_none (first_fault (symbol_checks b q c.in_ok-s.s)) c.in_ok-symbol_rule.field-0 tt c.in_ok-symbol_rule.ensures

@@ -5,4 +5,4 @@ use Rattle.reading.proofs.every_symbol.Given as goal
 
 -- nothing was found so far
 abbrev pub invariant-loop-j : goal.invariant-loop-j
-invariant-loop-j l = first_fault (each (symbol_rule l.b l.from) l.j) ≡ None
+invariant-loop-j l = first_fault (each (symbol_rule l.headers.bytes.now l.from) l.j) ≡ None

@@ -1,30 +1,132 @@
+use Rattle.std.proofs.Common.{◌∙◌, is_some, length, Ok, Err, sym, ap, subst, rules}
 use Rattle.std.proofs.lemmas.Result.{err_from_is_err_and}
-use Rattle.checklist.specs.Checks.{first_fault}
+use Rattle.checklist.specs.Checks.{first_fault, each}
 use Rattle.checklist.proofs.Checks.{ok_none, err_some}
-use Rattle.field.specs.Fields.{long}
-use Rattle.field.proofs.Within.{read_is}
 use Rattle.elf.specs.Layout.{sections}
-use Rattle.rules.specs.Rules.{head_rule}
-use Rattle.rules.specs.Verdict.{from_extents}
-use Rattle.reading.proofs.Ending.{ends_err, ends_on, headed}
+use Rattle.rules.specs.Known.{Tabled}
+use Rattle.rules.specs.Rules.{extent_checks, content_checks, extent_rule, content_rule, only_rule, the_only, table_rule, symbols, relocation_rule}
+use Rattle.rules.specs.Listing.{significance_kind, listing_rule}
+use Rattle.rules.specs.Notes.{parts, marks}
+use Rattle.rules.specs.Verdict.{from_contents, from_only_table, from_table, from_relocations, from_only_listing}
+use Rattle.reading.proofs.Ending.{ends_err, returned, after_extents, after_contents, after_only_table, after_table, after_relocations, after_only_listing, tabled}
 use Rattle.reading.proofs.examine.Goals as goal
 
-pub returns-in_err-n : goal.returns-in_err-n
-returns-in_err-n c =
-    let b = c.args.b.now
-    in let f = c.in_err-n.field-0.0
-    in let p = err_from_is_err_and c.from_residual.result c.from_residual.ensures.1
-    in rw (p.1, p.2) (ends_err b (head_rule b) (from_extents b) f (err_some (first_fault (head_rule b)) f (sections b) c.in_err-n.ensures))
+pub returns-in_err-every_section : goal.returns-in_err-every_section
+returns-in_err-every_section c =
+    let hb = c.in_ok-headers.headers.bytes.now
+    in let f = c.in_err-every_section.field-0.0
+    in let p = err_from_is_err_and c.from_residual-in_err-every_section.result c.from_residual-in_err-every_section.ensures.1
+    in rw (p.1, p.2) (returned c.args.b.now hb (Err f) c.in_ok-headers.ensures.1 c.in_ok-headers.ensures.0
+    (ends_err hb (each (extent_rule hb) (sections hb)) (from_contents hb) f
+    (err_some (first_fault (each (extent_rule hb) (sections hb))) f tt (c.in_err-every_section.ensures (extent_checks (length hb)) (λ p h r k. search rules)))))
 
-pub on_extents-requires : goal.on_extents-requires
-on_extents-requires c =
-    let b = c.args.b.now
-    in let good = ok_none (first_fault (head_rule b)) c.in_ok-n.n (sections b) c.in_ok-n.ensures
-    in let first = read_is b 40 8 c.in_ok-first.first (long b 40) c.in_ok-first.ensures
-    in rw (good.1, first) (headed b good.0)
+pub returns-in_err-every_section-2 : goal.returns-in_err-every_section-2
+returns-in_err-every_section-2 c =
+    let hb = c.in_ok-headers.headers.bytes.now
+    in let f = c.in_err-every_section-2.field-0.0
+    in let p = err_from_is_err_and c.from_residual-in_err-every_section-2.result c.from_residual-in_err-every_section-2.ensures.1
+    in let extents = ok_none (first_fault (each (extent_rule hb) (sections hb))) c.in_ok-every_section.field-0 tt (c.in_ok-every_section.ensures (extent_checks (length hb)) (λ p h r k. search rules))
+    in rw (p.1, p.2) (returned c.args.b.now hb (Err f) c.in_ok-headers.ensures.1 c.in_ok-headers.ensures.0
+    (after_extents hb (Err f) extents.0 (ends_err hb (each (content_rule hb) (sections hb)) (from_only_table hb) f
+    (err_some (first_fault (each (content_rule hb) (sections hb))) f tt (c.in_err-every_section-2.ensures content_checks (λ p h r k. search rules))))))
+
+pub returns-in_err-number : goal.returns-in_err-number
+returns-in_err-number c =
+    let hb = c.in_ok-headers.headers.bytes.now
+    in let f = c.in_err-number.field-0.0
+    in let p = err_from_is_err_and c.from_residual-in_err-number.result c.from_residual-in_err-number.ensures.1
+    in let extents = ok_none (first_fault (each (extent_rule hb) (sections hb))) c.in_ok-every_section.field-0 tt (c.in_ok-every_section.ensures (extent_checks (length hb)) (λ p h r k. search rules))
+    in let contents = ok_none (first_fault (each (content_rule hb) (sections hb))) c.in_ok-every_section-2.field-0 tt (c.in_ok-every_section-2.ensures content_checks (λ p h r k. search rules))
+    in rw (p.1, p.2) (returned c.args.b.now hb (Err f) c.in_ok-headers.ensures.1 c.in_ok-headers.ensures.0
+    (after_contents hb (Err f) extents.0 contents.0 (ends_err hb (each (only_rule 2 hb) (sections hb)) (from_table hb) f
+    (err_some (first_fault (each (only_rule 2 hb) (sections hb))) f (the_only 2 hb) c.in_err-number.ensures))))
+
+pub symbol_table-requires-clause-extents : goal.symbol_table-requires-clause-extents
+symbol_table-requires-clause-extents c =
+    let hb = c.in_ok-headers.headers.bytes.now
+    in let extents = ok_none (first_fault (each (extent_rule hb) (sections hb))) c.in_ok-every_section.field-0 tt (c.in_ok-every_section.ensures (extent_checks (length hb)) (λ p h r k. search rules))
+    in extents.0
+
+pub returns-in_err-symbols : goal.returns-in_err-symbols
+returns-in_err-symbols c =
+    let hb = c.in_ok-headers.headers.bytes.now
+    in let f = c.in_err-symbols.field-0.0
+    in let p = err_from_is_err_and c.from_residual-in_err-symbols.result c.from_residual-in_err-symbols.ensures.1
+    in let extents = ok_none (first_fault (each (extent_rule hb) (sections hb))) c.in_ok-every_section.field-0 tt (c.in_ok-every_section.ensures (extent_checks (length hb)) (λ p h r k. search rules))
+    in let contents = ok_none (first_fault (each (content_rule hb) (sections hb))) c.in_ok-every_section-2.field-0 tt (c.in_ok-every_section-2.ensures content_checks (λ p h r k. search rules))
+    in let alone = ok_none (first_fault (each (only_rule 2 hb) (sections hb))) c.in_ok-number.number (the_only 2 hb) c.in_ok-number.ensures
+    in rw (p.1, p.2) (returned c.args.b.now hb (Err f) c.in_ok-headers.ensures.1 c.in_ok-headers.ensures.0
+    (after_only_table hb (Err f) extents.0 contents.0 alone.0 (ends_err hb (table_rule hb) (from_relocations hb) f
+    (err_some (first_fault (table_rule hb)) f (symbols hb) c.in_err-symbols.ensures))))
+
+pub invariant_of-table : goal.invariant_of-table
+invariant_of-table c =
+    let hb = c.in_ok-headers.headers.bytes.now
+    in let extents = ok_none (first_fault (each (extent_rule hb) (sections hb))) c.in_ok-every_section.field-0 tt (c.in_ok-every_section.ensures (extent_checks (length hb)) (λ p h r k. search rules))
+    in let alone = ok_none (first_fault (each (only_rule 2 hb) (sections hb))) c.in_ok-number.number (the_only 2 hb) c.in_ok-number.ensures
+    in let entries = ok_none (first_fault (table_rule hb)) c.in_ok-symbols.symbols (symbols hb) c.in_ok-symbols.ensures
+    in record { found = alone.1; tabled = subst (Tabled hb) (sym entries.1) (tabled hb extents.0); extents = extents.0 }
+
+pub returns-in_err-parts : goal.returns-in_err-parts
+returns-in_err-parts c =
+    let hb = c.in_ok-headers.headers.bytes.now
+    in let f = c.in_err-parts.field-0.0
+    in let p = err_from_is_err_and c.from_residual-in_err-parts.result c.from_residual-in_err-parts.ensures.1
+    in let extents = ok_none (first_fault (each (extent_rule hb) (sections hb))) c.in_ok-every_section.field-0 tt (c.in_ok-every_section.ensures (extent_checks (length hb)) (λ p h r k. search rules))
+    in let contents = ok_none (first_fault (each (content_rule hb) (sections hb))) c.in_ok-every_section-2.field-0 tt (c.in_ok-every_section-2.ensures content_checks (λ p h r k. search rules))
+    in let alone = ok_none (first_fault (each (only_rule 2 hb) (sections hb))) c.in_ok-number.number (the_only 2 hb) c.in_ok-number.ensures
+    in let entries = ok_none (first_fault (table_rule hb)) c.in_ok-symbols.symbols (symbols hb) c.in_ok-symbols.ensures
+    in rw (p.1, p.2) (returned c.args.b.now hb (Err f) c.in_ok-headers.ensures.1 c.in_ok-headers.ensures.0
+    (after_table hb (Err f) extents.0 contents.0 alone.0 entries.0 (ends_err hb (each (relocation_rule hb) (sections hb)) (from_only_listing hb) f
+    (err_some (first_fault (each (relocation_rule hb) (sections hb))) f (parts hb) c.in_err-parts.ensures))))
+
+pub returns-in_err-found : goal.returns-in_err-found
+returns-in_err-found c =
+    let hb = c.in_ok-headers.headers.bytes.now
+    in let f = c.in_err-found.field-0.0
+    in let p = err_from_is_err_and c.from_residual-in_err-found.result c.from_residual-in_err-found.ensures.1
+    in let extents = ok_none (first_fault (each (extent_rule hb) (sections hb))) c.in_ok-every_section.field-0 tt (c.in_ok-every_section.ensures (extent_checks (length hb)) (λ p h r k. search rules))
+    in let contents = ok_none (first_fault (each (content_rule hb) (sections hb))) c.in_ok-every_section-2.field-0 tt (c.in_ok-every_section-2.ensures content_checks (λ p h r k. search rules))
+    in let alone = ok_none (first_fault (each (only_rule 2 hb) (sections hb))) c.in_ok-number.number (the_only 2 hb) c.in_ok-number.ensures
+    in let entries = ok_none (first_fault (table_rule hb)) c.in_ok-symbols.symbols (symbols hb) c.in_ok-symbols.ensures
+    in let related = ok_none (first_fault (each (relocation_rule hb) (sections hb))) c.in_ok-parts.parts (parts hb) c.in_ok-parts.ensures
+    in rw (p.1, p.2) (returned c.args.b.now hb (Err f) c.in_ok-headers.ensures.1 c.in_ok-headers.ensures.0
+    (after_relocations hb (Err f) extents.0 contents.0 alone.0 entries.0 related.0 (ends_err hb (each (only_rule significance_kind hb) (sections hb)) (listing_rule hb) f
+    (err_some (first_fault (each (only_rule significance_kind hb) (sections hb))) f (the_only significance_kind hb) c.in_err-found.ensures))))
+
+pub returns-in_err-listed : goal.returns-in_err-listed
+returns-in_err-listed c =
+    let hb = c.in_ok-headers.headers.bytes.now
+    in let f = c.in_err-listed.field-0.0
+    in let p = err_from_is_err_and c.from_residual-in_err-listed.result c.from_residual-in_err-listed.ensures.1
+    in let extents = ok_none (first_fault (each (extent_rule hb) (sections hb))) c.in_ok-every_section.field-0 tt (c.in_ok-every_section.ensures (extent_checks (length hb)) (λ p h r k. search rules))
+    in let contents = ok_none (first_fault (each (content_rule hb) (sections hb))) c.in_ok-every_section-2.field-0 tt (c.in_ok-every_section-2.ensures content_checks (λ p h r k. search rules))
+    in let alone = ok_none (first_fault (each (only_rule 2 hb) (sections hb))) c.in_ok-number.number (the_only 2 hb) c.in_ok-number.ensures
+    in let entries = ok_none (first_fault (table_rule hb)) c.in_ok-symbols.symbols (symbols hb) c.in_ok-symbols.ensures
+    in let related = ok_none (first_fault (each (relocation_rule hb) (sections hb))) c.in_ok-parts.parts (parts hb) c.in_ok-parts.ensures
+    in let single = ok_none (first_fault (each (only_rule significance_kind hb) (sections hb))) c.in_ok-found.found (the_only significance_kind hb) c.in_ok-found.ensures
+    in rw (p.1, p.2) (returned c.args.b.now hb (Err f) c.in_ok-headers.ensures.1 c.in_ok-headers.ensures.0
+    (after_only_listing hb (Err f) extents.0 contents.0 alone.0 entries.0 related.0 single.0
+    (err_some (first_fault (listing_rule hb)) f (marks hb) c.in_err-listed.ensures)))
 
 pub returns : goal.returns
 returns c =
-    let b = c.args.b.now
-    in let good = ok_none (first_fault (head_rule b)) c.in_ok-n.n (sections b) c.in_ok-n.ensures
-    in ends_on b (head_rule b) (from_extents b) c.on_extents.result good.0 c.on_extents.ensures
+    let hb = c.in_ok-headers.headers.bytes.now
+    in let extents = ok_none (first_fault (each (extent_rule hb) (sections hb))) c.in_ok-every_section.field-0 tt (c.in_ok-every_section.ensures (extent_checks (length hb)) (λ p h r k. search rules))
+    in let contents = ok_none (first_fault (each (content_rule hb) (sections hb))) c.in_ok-every_section-2.field-0 tt (c.in_ok-every_section-2.ensures content_checks (λ p h r k. search rules))
+    in let alone = ok_none (first_fault (each (only_rule 2 hb) (sections hb))) c.in_ok-number.number (the_only 2 hb) c.in_ok-number.ensures
+    in let entries = ok_none (first_fault (table_rule hb)) c.in_ok-symbols.symbols (symbols hb) c.in_ok-symbols.ensures
+    in let related = ok_none (first_fault (each (relocation_rule hb) (sections hb))) c.in_ok-parts.parts (parts hb) c.in_ok-parts.ensures
+    in let single = ok_none (first_fault (each (only_rule significance_kind hb) (sections hb))) c.in_ok-found.found (the_only significance_kind hb) c.in_ok-found.ensures
+    in let listed = ok_none (first_fault (listing_rule hb)) c.in_ok-listed.listed (marks hb) c.in_ok-listed.ensures
+    in returned c.args.b.now hb (Ok _) c.in_ok-headers.ensures.1 c.in_ok-headers.ensures.0
+    (after_only_listing hb (Ok _) extents.0 contents.0 alone.0 entries.0 related.0 single.0 (
+      listed.0,
+      record {
+        symbols_right = entries.1;
+        parts_right = related.1;
+        listing_right = c.is_some.ensures ∙ ap is_some single.1;
+        marks_right = listed.1;
+        roots_right = c.roots.ensures;
+      },
+    ))
