@@ -1,4 +1,4 @@
-use Rattle.std.proofs.Common.{false, rules, arith}
+use Rattle.std.proofs.Common.{false, rules}
 use Rattle.std.proofs.lemmas.List.FromFn.{fill_by_all}
 use Rattle.unfolding.specs.Groups.{present}
 use Rattle.pile.proofs.Made.{made_at}
