@@ -1,19 +1,18 @@
 -- The test of cores decides their equality, and a digest tells no more than a core.
-use Rattle.std.proofs.Common.{◌≡◌, ℕ, ◌+◌, ◌≤◌, Bool, true, false, ◌&&◌, eqb, List, [], ◌∷◌, map, length, drop, Some, None, Decides, Option, sym, refl, ap, ◌∙◌, subst, arith}
-use Rattle.std.proofs.lemmas.Bool.Decides.{Decides-eqb, Decides-and, Decides-like, same_from_decides}
+use Rattle.std.proofs.Common.{◌≡◌, ℕ, ◌+◌, ◌≤◌, ◌&&◌, eqb, List, [], ◌∷◌, map, length, drop, Some, None, Decides, Option, sym, refl, ap, ◌∙◌, subst, arith}
+use Rattle.std.proofs.lemmas.Bool.Decides.{Decides-eqb, Decides-and, Decides-like}
 use Rattle.std.proofs.lemmas.List.{drop_all}
 use Rattle.model.specs.declared.Target.{Target}
 use Rattle.model.specs.declared.Target.TheVariants.{Section, Outside}
 use Rattle.model.specs.declared.Relocation.{Relocation}
 use Rattle.model.specs.Graph.{Body, told_record, told_relocation}
-use Rattle.graph.specs.Bytes.{bytes_in}
 use Rattle.graph.proofs.Places.{drop_nth, nth_none}
 use Rattle.unfolding.specs.Depth.{Arm, told_map, same_integer, same_list}
 use Rattle.unfolding.specs.Telling.{told_target}
 use Rattle.unfolding.specs.Sections.{Face, face_of, same_face, rules}
-use Rattle.unfolding.proofs.Same.{decides_both, integer_decides, list_decides}
+use Rattle.unfolding.proofs.Same.{decides_both, integer_decides}
 use Rattle.unfolding.proofs.Rules.{lawful_rules}
-use Rattle.content.specs.Core.{unnamed, bare, same_outside, same_bare, Core, core_of, same_core, told_count, told_face, mixed_arm, mixed_arms}
+use Rattle.content.specs.Core.{unnamed, bare, same_outside, same_bare, Core, core_of, same_core, told_count, mixed_arm, mixed_arms}
 use Rattle.content.specs.Aims.{relocations_in}
 use Rattle.content.proofs.Tested.{relocation_nth, count_length}
 
@@ -70,55 +69,6 @@ core_decides a b =
     (λ p q i. record { face = p i; arms = q i })
     (λ e. ap (λ (c : Core). c.face) e)
     (λ e. ap (λ (c : Core). c.arms) e)
-
--- the comparison part by part
-
-and_swap : (x y : Bool) → (x && y) ≡ (y && x)
-and_swap true true = refl
-and_swap true false = refl
-and_swap false true = refl
-and_swap false false = refl
-
-regroup : (x z y l : Bool) → ((x && (z && y)) && l) ≡ ((x && z) && (l && y))
-regroup true true y l = and_swap y l
-regroup true false y l = refl
-regroup false z y l = refl
-
-bytes_face : (o : Option Body) → bytes_in o ≡ (face_of o).bytes
-bytes_face None = refl
-bytes_face (Some b) = refl
-
-face_flags : (o : Option Body) → (told_face (told_record o)).0 ≡ (face_of o).flags
-face_flags None = refl
-face_flags (Some b) = refl
-
-face_alignment : (o : Option Body) → (told_face (told_record o)).1 ≡ (face_of o).alignment
-face_alignment None = refl
-face_alignment (Some b) = refl
-
-pub core_parts :
-    (a b : Option Body) (f l y : Bool) →
-    f ≡ (eqb (told_face (told_record a)).0 (told_face (told_record b)).0 && eqb (told_face (told_record a)).1 (told_face (told_record b)).1) →
-    l ≡ same_list same_bare (relocations_in a) (relocations_in b) →
-    Decides y (bytes_in a ≡ bytes_in b) →
-    (f && (l && y)) ≡ same_core a b
-core_parts a b f l y e h d =
-    let bytes : y ≡ same_list eqb (face_of a).bytes (face_of b).bytes =
-    same_from_decides y (same_list eqb (face_of a).bytes (face_of b).bytes) d
-    (Decides-like
-    (same_list eqb (face_of a).bytes (face_of b).bytes)
-    (λ (p : (face_of a).bytes ≡ (face_of b).bytes). bytes_face a ∙ (p ∙ sym (bytes_face b)))
-    (λ q. sym (bytes_face a) ∙ (q ∙ bytes_face b))
-    (list_decides eqb Decides-eqb (face_of a).bytes (face_of b).bytes)) in
-    let faces : (eqb (told_face (told_record a)).0 (told_face (told_record b)).0 && eqb (told_face (told_record a)).1 (told_face (told_record b)).1) ≡ (eqb (face_of a).flags (face_of b).flags && eqb (face_of a).alignment (face_of b).alignment) =
-    rw (face_flags a, face_flags b, face_alignment a, face_alignment b) in
-    rw (e, faces, h, bytes)
-    (sym
-    (regroup
-    (eqb (face_of a).flags (face_of b).flags)
-    (eqb (face_of a).alignment (face_of b).alignment)
-    (same_list eqb (face_of a).bytes (face_of b).bytes)
-    (same_list same_bare (relocations_in a) (relocations_in b))))
 
 -- the digest, relocation by relocation
 

@@ -1,7 +1,6 @@
 -- Two lists that are tested place by place, and what the questions tell of a section's relocations.
-use Rattle.std.proofs.Common.{◌≡◌, ℕ, suc, ◌+◌, ◌≤◌, Bool, true, false, ◌&&◌, List, [], ◌∷◌, length, drop, Some, None, Option, sym, refl, ap, ◌∙◌, arith}
+use Rattle.std.proofs.Common.{◌≡◌, ℕ, ◌+◌, Bool, true, false, ◌&&◌, List, [], length, drop, Some, None, Option, sym, refl, ap, ◌∙◌, arith}
 use Rattle.std.specs.List.{slice_get}
-use Rattle.std.proofs.lemmas.Bool.{and_parts}
 use Rattle.std.proofs.lemmas.List.{drop_all}
 use Rattle.model.specs.declared.Relocation.{Relocation}
 use Rattle.model.specs.Graph.{Body, told_relocation, told_record}
@@ -18,19 +17,6 @@ both_told test (Some x) None = false
 both_told test (Some x) (Some y) = test x y
 
 module _ {X : Type 0} (test : X → X → Bool) where
-  same_lengths : (xs ys : List X) → same_list test xs ys ≡ true → length xs ≡ length ys
-  same_lengths [] [] e = refl
-  same_lengths [] (y ∷ ys) e = let z : ◌≡◌ {A = ℕ} 0 1 = cc in absurd (omega arith)
-  same_lengths (x ∷ xs) [] e = let z : ◌≡◌ {A = ℕ} 0 1 = cc in absurd (omega arith)
-  same_lengths (x ∷ xs) (y ∷ ys) e = ap suc (same_lengths xs ys (and_parts (test x y) (same_list test xs ys) e).1)
-
-  unlike : (b : Bool) → (b ≡ true → ⊥) → false ≡ b
-  unlike true h = absurd (h refl)
-  unlike false h = refl
-
-  unlike_lengths : (xs ys : List X) → (length xs ≡ length ys → ⊥) → false ≡ same_list test xs ys
-  unlike_lengths xs ys ne = unlike (same_list test xs ys) (λ e. ne (same_lengths xs ys e))
-
   -- what stands at place j decides what is left of the two lists
   same_left :
       (xs ys : List X) (j : ℕ) →
@@ -72,10 +58,6 @@ module _ (test : Relocation → Relocation → Bool) (o p : Option Body) where
       same_list test (drop (j + 1) (relocations_in o)) (drop (j + 1) (relocations_in p)))
   left j = rw (relocation_nth o j, relocation_nth p j) (same_left test (relocations_in o) (relocations_in p) j)
 
-  pub test_counts : (told_count (told_record o) ≡ told_count (told_record p) → ⊥) → false ≡ same_list test (relocations_in o) (relocations_in p)
-  test_counts ne =
-      unlike_lengths test (relocations_in o) (relocations_in p) (λ e. ne (count_length o ∙ (e ∙ sym (count_length p))))
-
   pub told_both :
       (j : ℕ) (r q : Relocation) →
       told_relocation o j ≡ Some r →
@@ -103,16 +85,3 @@ module _ (test : Relocation → Relocation → Bool) (o p : Option Body) where
       let step : same_list test (drop j (relocations_in o)) (drop j (relocations_in p)) ≡ false =
       left j ∙ ap (λ (b : Bool). b && same_list test (drop (j + 1) (relocations_in o)) (drop (j + 1) (relocations_in p))) e in
       sym step ∙ h
-
-  pub test_ends :
-      (j : ℕ) →
-      told_count (told_record o) ≤ j →
-      told_count (told_record p) ≤ j →
-      same_list test (drop j (relocations_in o)) (drop j (relocations_in p)) ≡ same_list test (relocations_in o) (relocations_in p) →
-      true ≡ same_list test (relocations_in o) (relocations_in p)
-  test_ends j l m h =
-      let a = count_length o in
-      let b = count_length p in
-      let step : true ≡ same_list test (drop j (relocations_in o)) (drop j (relocations_in p)) =
-      rw (drop_all j (relocations_in o) (omega arith), drop_all j (relocations_in p) (omega arith)) in
-      step ∙ h

@@ -2,3 +2,4 @@ mod Search
 mod Leaders
 mod Next
 mod Turns
+mod Filled

@@ -1,6 +1,6 @@
 -- Round after round, until nothing changes.
 use Rattle.std.proofs.Common.{◌≡◌, ℕ, suc, ◌+◌, ◌<◌, ◌≤◌, true, false, List, length, get_or, set, replicate, Some, None, Option, Decides, unwrap_or, sym, refl, ap, ◌∙◌, subst, ⊎_elim, add-one, arith}
-use Rattle.std.proofs.lemmas.Bool.{cases_lt, both_ways}
+use Rattle.std.proofs.lemmas.Bool.{cases_lt, cases_Bool, both_ways, cond-true, cond-false}
 use Rattle.std.proofs.lemmas.List.{get_or-set_same, get_or-set_other, length-set, length-replicate, ext_get_or}
 use Rattle.std.proofs.lemmas.List.FromFn.{fill_by_all}
 use Rattle.model.specs.Graph.{Graph, count_of}
@@ -15,7 +15,7 @@ use Rattle.unfolding.proofs.Classes.{class_itself, class_foldable, class_below, 
 use Rattle.unfolding.proofs.Rules.{lawful_rules}
 use Rattle.unfolding.proofs.Theorems.{marks_tell}
 use Rattle.partition.specs.declared.Base.{Base}
-use Rattle.partition.specs.Classes.{Found, Bases, class_at, Classed, Classes, joined, Refined, Turn}
+use Rattle.partition.specs.Classes.{Found, marked_class, Bases, class_at, Classed, Classes, joined, Refined, Turn}
 use Rattle.partition.proofs.Next.{round_class}
 
 -- tables that are filled from the first section on
@@ -66,7 +66,7 @@ first_class g m s f l h =
         (cases_lt t m)
 
 -- the lowest foldable section is the class of each
-pub lowest_class :
+lowest_class :
     (g : Graph) (r : Option ℕ) (s : ℕ) → Found (foldable g) 0 1024 (unwrap_or r 1024) → s < 1024 → FoldAble g s → unwrap_or r s ≡ class_at g 0 s
 lowest_class g None s f l h =
     let at : 1024 ≡ class_at g 0 s = first_class g 1024 s f l h in
@@ -74,8 +74,20 @@ lowest_class g None s f l h =
     absurd (omega arith)
 lowest_class g (Some m) s f l h = first_class g m s f l h
 
-pub other_class : (g : Graph) (s : ℕ) → foldable g s ≡ false → s ≡ class_at g 0 s
-other_class g s e = sym (class_itself rules lawful_rules g 0 s e)
+marked_class_at : (g : Graph) (r : Option ℕ) (s : ℕ) → Found (foldable g) 0 1024 (unwrap_or r 1024) → s < 1024 → marked_class g r s ≡ class_at g 0 s
+marked_class_at g r s f l =
+    ⊎_elim
+    (λ h. cond-true (foldable g s) (unwrap_or r s) s h ∙ lowest_class g r s f l h)
+    (λ h. cond-false (foldable g s) (unwrap_or r s) s h ∙ sym (class_itself rules lawful_rules g 0 s h))
+    (cases_Bool (foldable g s))
+
+pub marked_classes :
+    (g : Graph) (r : Option ℕ) (cs : List ℕ) →
+    Found (foldable g) 0 1024 (unwrap_or r 1024) →
+    length cs ≡ 1024 →
+    ((s : ℕ) → s < 1024 → get_or cs s 0 ≡ marked_class g r s) →
+    Classes g 0 cs
+marked_classes g r cs f sized h = record { sized = sized; at = λ s l. h s l ∙ marked_class_at g r s f l }
 
 -- a round
 

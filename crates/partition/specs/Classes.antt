@@ -1,5 +1,5 @@
 -- Classes of sections at a depth, their bases, and one round.
-use Rattle.std.specs.Prelude.{◌≡◌, ℕ, suc, ◌<◌, ◌≤◌, Bool, true, false, cond, ◌&&◌, List, length, Some, None, Option, ◌==◌, slice_index, slice_index_or}
+use Rattle.std.specs.Prelude.{◌≡◌, ℕ, suc, ◌<◌, ◌≤◌, Bool, true, false, cond, ◌&&◌, List, length, Some, None, Option, ◌==◌, slice_index, slice_index_or, unwrap_or}
 use Rattle.model.specs.Graph.{Graph, section_of}
 use Rattle.steps.specs.Below.{least_below}
 use Rattle.unfolding.specs.Depth.{same_list}
@@ -67,6 +67,10 @@ pub record Bases (g : Graph) (bases : List (Option Base)) : Type 0 where
 -- the class of section s at depth k: of a foldable one the lowest that agrees with it at that depth, of another the section itself
 abbrev pub class_at : Graph → ℕ → ℕ → ℕ
 class_at g k s = class_by rules g k s
+
+-- the class at depth 0, where the lowest foldable section is known
+abbrev pub marked_class : Graph → Option ℕ → ℕ → ℕ
+marked_class g first s = cond (foldable g s) (unwrap_or first s) s
 
 -- the classes at depth k of the sections below n
 abbrev pub Classed : Graph → ℕ → List ℕ → ℕ → Type 0

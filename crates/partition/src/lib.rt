@@ -3,15 +3,15 @@
 #![tactic(auto)]
 
 ghost use Rattle.std.specs.Prelude.{◌≡◌, ℕ, ◌<◌, ◌≤◌, slice_index, unwrap_or};
-ghost use Rattle.model.specs.Graph.{count_of, section_of};
+ghost use Rattle.model.specs.Graph.{count_of};
 ghost use Rattle.steps.specs.Below.{table};
 ghost use Rattle.unfolding.specs.Groups.{foldable};
 ghost use Rattle.unfolding.specs.Sections.{rep, rounds};
-ghost use Rattle.content.specs.Core.{core_of, digest_core};
-ghost use Rattle.partition.specs.Classes.{Finds, Found, joined, based, base_at, Based, Bases, Classes, Refined};
+ghost use Rattle.partition.specs.Classes.{Finds, Found, marked_class, joined, based, base_at, digest_of, Based, Bases, Classes, Refined};
 
 use content::{content_digest, may_fold, same_aims, same_content};
 use graph::SectionGraph;
+use std::array;
 
 // The base of a foldable section, the lowest foldable one with the same content but for the sections that relocations point at, and a
 // digest of that content.
@@ -19,6 +19,18 @@ use graph::SectionGraph;
 struct Base {
     leader: u16,
     digest: u64,
+}
+
+// A foldable section whose base is sought: the bases of the sections below it, and the digest of its content.
+#[derive(Drop)]
+struct Sought<'a, G: SectionGraph> {
+    graph: &'a G,
+    bases: &'a [Option<Base>; 1024],
+    section: u16,
+    digest: u64,
+    ghost small: { section < 1024 },
+    ghost below: { Based (G.SectionGraph.graph graph.now) bases.now section },
+    ghost known: { digest ≡ digest_of (G.SectionGraph.graph graph.now) section },
 }
 
 // A round: the sections, their bases, and their classes before it.
@@ -82,51 +94,48 @@ fn lowest_or_end<F: Fn(u16) -> bool>(first: u16, end: u16, passes: F) -> u16
     lowest(first, end, passes).unwrap_or(end)
 }
 
+// The class of section `s` at depth 0, where `first` is the lowest foldable section.
+fn class_by_mark<G: SectionGraph>(graph: &G, first: Option<u16>, s: u16) -> u16
+    ensures { result ≡ marked_class (G.SectionGraph.graph graph.now) first s }
+{
+    if may_fold(graph, s) {
+        first.unwrap_or(s)
+    } else {
+        s
+    }
+}
+
 // The classes at depth 0: the foldable sections are one class.
 fn by_mark<G: SectionGraph>(graph: &G) -> [u16; 1024]
     ensures { Classes (G.SectionGraph.graph graph.now) 0 result }
 {
     let first = lowest(0, 1024, |s| may_fold(graph, s));
-    let mut class = [0; 1024];
-    for s in 0..1024u16 {
-        let lead = if may_fold(graph, s) {
-            first.unwrap_or(s)
-        } else {
-            s
+    array::from_fn(
+        |s|
+            requires { s < 1024 }
+        { class_by_mark(graph, first, s as u16) },
+    )
+}
+
+impl<'a, G: SectionGraph> Sought<'a, G> {
+    // Whether section `t` leads its base, and this is the base that is sought: unequal digests decide, equal ones do not.
+    fn joins(&self, t: u16) -> bool
+        requires { t < self.now.section }
+        ensures { result ≡ based (G.SectionGraph.graph self.now.graph.now) self.now.bases.now self.now.section t }
+    {
+        let wanted = Base {
+            leader: t,
+            digest: self.digest,
         };
-        class[s as usize] = lead;
+        self.bases[t as usize] == Some(wanted) && same_content(self.graph, t, self.section)
     }
-    class
-}
 
-// Whether section `t` leads its base, and this is the base of section `s` too: unequal digests decide, equal ones do not.
-fn joins_base<G: SectionGraph>(
-    graph: &G,
-    bases: &[Option<Base>; 1024],
-    digest: u64,
-    s: u16,
-    t: u16,
-) -> bool
-    requires low { t < s }
-    requires small { s < 1024 }
-    requires below { Based (G.SectionGraph.graph graph.now) bases.now s }
-    requires digest { digest ≡ digest_core (core_of (section_of (G.SectionGraph.graph graph.now) s)) }
-    ensures { result ≡ based (G.SectionGraph.graph graph.now) bases.now s t }
-{
-    if bases[t as usize] != Some(Base { leader: t, digest }) {
-        return false;
+    // The lowest section below that leads the base that is sought, and the section itself if there is none.
+    fn leader(&self) -> u16
+        ensures { Found (based (G.SectionGraph.graph self.now.graph.now) self.now.bases.now self.now.section) 0 self.now.section result }
+    {
+        lowest_or_end(0, self.section, |t| self.joins(t))
     }
-    same_content(graph, t, s)
-}
-
-// The lowest section below `s` that leads the base of `s`, and `s` itself if there is none.
-fn base_leader<G: SectionGraph>(graph: &G, bases: &[Option<Base>; 1024], digest: u64, s: u16) -> u16
-    requires small { s < 1024 }
-    requires below { Based (G.SectionGraph.graph graph.now) bases.now s }
-    requires digest { digest ≡ digest_core (core_of (section_of (G.SectionGraph.graph graph.now) s)) }
-    ensures { Found (based (G.SectionGraph.graph graph.now) bases.now s) 0 s result }
-{
-    lowest_or_end(0, s, |t| joins_base(graph, bases, digest, s, t))
 }
 
 // The base of section `s` from those of the sections below it, if it is foldable.
@@ -139,7 +148,13 @@ fn base_of<G: SectionGraph>(graph: &G, bases: &[Option<Base>; 1024], s: u16) -> 
         return None;
     }
     let digest = content_digest(graph, s);
-    let leader = base_leader(graph, bases, digest, s);
+    let sought = Sought {
+        graph,
+        bases,
+        section: s,
+        digest,
+    };
+    let leader = sought.leader();
     Some(Base { leader, digest })
 }
 

@@ -8,8 +8,8 @@ returns-then-not-may_fold g c =
 
 pub returns : goal.returns
 returns g c =
-    base_made (g.G.SectionGraph.graph c.args.graph.now) c.args.bases.now c.args.s c.base_leader-leader.result c.content_digest-digest.result
+    base_made (g.G.SectionGraph.graph c.args.graph.now) c.args.bases.now c.args.s c.leader-leader.result c.content_digest-digest.result
     (sym c.may_fold.ensures ∙ c.if-not-may_fold.false)
     c.requires.below
-    c.base_leader-leader.ensures
+    c.leader-leader.ensures
     c.content_digest-digest.ensures

@@ -1,19 +1,18 @@
-use Rattle.std.proofs.Common.{sym, ◌∙◌, rules}
+use Rattle.std.proofs.Common.{rules, arith}
 use Rattle.unfolding.specs.Groups.{foldable}
+use Rattle.partition.specs.Classes.{marked_class}
 use Rattle.partition.proofs.Search.{found_from}
-use Rattle.partition.proofs.Turns.{filling_set, lowest_class, other_class}
+use Rattle.partition.proofs.Filled.{serves_from_indices, from_fn_at}
+use Rattle.partition.proofs.Turns.{marked_classes}
 use Rattle.partition.proofs.by_mark.Goals as goal
-use Rattle.partition.proofs.by_mark.Goals.{then-may_fold, else-may_fold}
 
-pub loop-s-preserved : goal.loop-s-preserved
-loop-s-preserved g c =
+pub from_fn-requires : goal.from_fn-requires
+from_fn-requires g c = (omega arith, serves_from_indices (λ x q k. search rules) (λ x h. search rules))
+
+pub returns : goal.returns
+returns g c =
     let x = g.G.SectionGraph.graph c.args.graph.now in
-    filling_set x 0 c.loop-s.class c.loop-s.s c.if-may_fold.lead c.loop-s.invariant c.loop-s-test.true
-    (elim c.if-may_fold.branch [
-      | then-may_fold w ↦
-          w.lead-is ∙
-          (w.unwrap_or-lead.ensures ∙
-          lowest_class x c.lowest-first.result c.loop-s.s (found_from (foldable x) _ 0 1024 _ (λ t b l h k. search rules) c.lowest-first.ensures) c.loop-s-test.true
-          (sym c.may_fold.ensures ∙ w.if-may_fold.true))
-      | else-may_fold w ↦ w.lead-is ∙ other_class x c.loop-s.s (sym c.may_fold.ensures ∙ w.if-may_fold.false)
-    ])
+    marked_classes x c.lowest-first.result c.from_fn.result
+    (found_from (foldable x) _ 0 1024 _ (λ t b l h k. search rules) c.lowest-first.ensures)
+    c.from_fn.ensures.items.long
+    (from_fn_at (marked_class x c.lowest-first.result) _ c.from_fn.result 1024 (λ i y q l k. (search rules, search rules)) c.from_fn.ensures.items)
