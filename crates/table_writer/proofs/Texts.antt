@@ -1,5 +1,5 @@
 -- The parts of a table's text, one row or one section after another.
-use Rattle.std.proofs.Common.{◌≡◌, ℕ, zero, suc, ◌+◌, ◌-◌, ◌*◌, ◌<◌, ◌≤◌, min, unwrap_or, ◌⊎◌, List, [], ◌∷◌, ◌++◌, length, get_or, take, drop, set, pos, Some, None, Option, sym, refl, ap, subst, ◌∙◌, inl, inr, append_assoc, add-one, arith}
+use Rattle.std.proofs.Common.{◌≡◌, ℕ, zero, suc, ◌+◌, ◌-◌, ◌*◌, ◌<◌, ◌≤◌, min, unwrap_or, ◌⊎◌, List, [], ◌∷◌, ◌++◌, length, get_or, take, drop, pos, Some, None, Option, sym, refl, ap, subst, ◌∙◌, inl, inr, append_assoc, add-one, arith}
 use Rattle.std.specs.Array.{IsElementAt, IsFromFnResultFrom}
 use Rattle.std.specs.Fn.{Called, Mut}
 use Rattle.std.specs.Int.{div_ceil}

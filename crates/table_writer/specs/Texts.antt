@@ -1,11 +1,11 @@
 -- The parts of a table's text, and how long they are.
-use Rattle.std.specs.Prelude.{ℕ, ◌+◌, ◌*◌, List, [], ◌++◌, length, take, drop, Some, None, Option}
+use Rattle.std.specs.Prelude.{ℕ, ◌+◌, ◌*◌, List, [], length, take, drop, Some, None, Option}
 use Rattle.std.specs.List.{flat_map}
 use Rattle.model.specs.declared.Record.{Record}
 use Rattle.model.specs.declared.Relocation.{Relocation}
-use Rattle.model.specs.Graph.{Body, Graph}
-use Rattle.row.specs.Entry.{render, bytes, relocation, root, end}
-use Rattle.layout.specs.Layout.{with_bytes, with_relocations, with_section, with_sections, with_roots, present_count, bytes_length}
+use Rattle.model.specs.Graph.{Body}
+use Rattle.row.specs.Entry.{render, bytes, relocation, root}
+use Rattle.layout.specs.Layout.{with_bytes, with_relocations, with_section, with_sections, with_roots, bytes_length}
 
 -- the bytes of a section, and its relocations: an absent one has none
 abbrev pub bytes_in : Option Body → List ℕ

@@ -33,6 +33,7 @@ fn sections_length<G: SectionGraph>(graph: &G) -> usize
     ensures table { result + (14 * root_count_of (G.SectionGraph.graph graph.now) + 40) ≡ length (text_of (G.SectionGraph.graph graph.now)) }
     ensures few { result ≤ 5120000000 }
 {
+    // a `for`: what bounds the sum is the loop's invariant, and a chain's `sum` asks for the bound beforehand
     let mut sum = 0;
     for s in 0..graph.count() {
         if let Some(record) = graph.record_of(s) {
@@ -54,6 +55,7 @@ pub fn table_length<G: SectionGraph>(graph: &G) -> usize
 fn present<G: SectionGraph>(graph: &G) -> u16
     ensures { result ≡ present_count (G.SectionGraph.graph graph.now).sections }
 {
+    // a `for`: of `filter(..).count()` over the range no proof was found of what it counts
     let mut count = 0;
     for s in 0..graph.count() {
         if graph.record_of(s).is_some() {
@@ -122,10 +124,10 @@ fn write_relocation_row<G: SectionGraph>(
 ) -> Result<usize, Fault>
     ensures { Writes (relocation_row (relocation_of (G.SectionGraph.graph graph.now) s j)) out.old out.new result }
 {
-    match graph.relocation(s, j) {
-        Some(relocation) => write_relocation(&relocation, out),
-        None => Ok(0),
-    }
+    let Some(relocation) = graph.relocation(s, j) else {
+        return Ok(0);
+    };
+    write_relocation(&relocation, out)
 }
 
 // Writes the rows of the relocations of section `s`, of which there are `count`.
@@ -169,10 +171,10 @@ fn write_sections<G: SectionGraph>(graph: &G, out: &mut [u8]) -> Result<usize, F
 fn write_root_row<G: SectionGraph>(graph: &G, j: u16, out: &mut [u8]) -> Result<usize, Fault>
     ensures { Writes (root_row (root_of (G.SectionGraph.graph graph.now) j)) out.old out.new result }
 {
-    match graph.root(j) {
-        Some(number) => write_root(number, out),
-        None => Ok(0),
-    }
+    let Some(number) = graph.root(j) else {
+        return Ok(0);
+    };
+    write_root(number, out)
 }
 
 // Writes the rows of the roots.

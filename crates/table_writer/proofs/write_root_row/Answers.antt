@@ -4,7 +4,7 @@ use Rattle.table_writer.specs.Writes.{Writes}
 use Rattle.table_writer.proofs.Writing.{row_written}
 use Rattle.table_writer.proofs.write_root_row.Goals as goal
 
-pub returns-in-Some : goal.returns-in-Some
-returns-in-Some g c =
+pub returns : goal.returns
+returns g c =
     subst (λ o. Writes (root_row o) c.args.out.now c.write_root.new.out c.write_root.result) (sym c.in-Some.is ∙ c.root.ensures)
     (row_written _ _ _ _ c.write_root.ensures.answer c.write_root.ensures.text)

@@ -1,4 +1,4 @@
-use Rattle.std.proofs.Common.{ℕ, subst, ap, ◌∙◌, rules}
+use Rattle.std.proofs.Common.{subst, ap, ◌∙◌, rules}
 use Rattle.std.specs.List.{slice_get}
 use Rattle.table_writer.specs.Texts.{root_row}
 use Rattle.table_writer.specs.Writes.{Writes, pieces}
