@@ -127,15 +127,15 @@ fn relocations(table: SymbolTable) -> Result<[Option<u16>; 1024], Fault>
 {
     let mut parts = [None; 1024];
     let mut refused = None;
+    // nested loops, left by the label at the first fault: a form that was asked for
     'reading: for i in 0..table.headers.count {
         match part_of(table, &parts, i) {
             Err(f) => {
                 refused = Some(f);
                 break 'reading;
             }
-            Ok(told) => match told {
-                None => {}
-                Some(part) => {
+            Ok(told) => {
+                if let Some(part) = told {
                     parts[part.target as usize] = Some(i);
                     for j in 0..part.count {
                         let q = part.from + 24 * j as u64;
@@ -145,9 +145,10 @@ fn relocations(table: SymbolTable) -> Result<[Option<u16>; 1024], Fault>
                         }
                     }
                 }
-            },
+            }
         }
     }
+    // not `map_or(Ok(parts), Err)`: tried, and what a call of the constructor gives could not be cited
     match refused {
         None => Ok(parts),
         Some(f) => Err(f),
@@ -162,6 +163,7 @@ fn listing(table: SymbolTable, base: u64, bytes: &[u8]) -> Result<[bool; 1024], 
     let mut marks = [false; 1024];
     let mut n = none_yet();
     let mut from = base;
+    // a `for` with its index, gathering each number: a form that was asked for
     for (i, x) in bytes.iter().enumerate() {
         from = begun(n, from, base + i as u64);
         match gather(n, *x, from)? {

@@ -7,7 +7,7 @@ use Rattle.rules.specs.Notes.{parts}
 use Rattle.reading.proofs.Parting.{part_ends}
 use Rattle.reading.proofs.Turns.{start, ended, passed_over, into, entry_more, out, part_found, entry_found}
 use Rattle.reading.proofs.relocations.Goals as goal
-use Rattle.reading.proofs.relocations.Goals.{in-None, in-Some+else-loop-j-test, else-reading-test, then-reading-test+in-Err, then-reading-test+in-Ok+in-Some+then-loop-j-test+in-Err-entry_at}
+use Rattle.reading.proofs.relocations.Goals.{in_default, in-Some+else-loop-j-test, else-reading-test, then-reading-test+in-Err, then-reading-test+in-Ok+in-Some+then-loop-j-test+in-Err-entry_at}
 
 pub reading-init : goal.reading-init
 reading-init c = start c.args.table.headers.bytes.now
@@ -37,22 +37,22 @@ loop-j-preserved c =
     let b = c.args.table.headers.bytes.now
     in let m = c.in-Some.part
     in let q : ℕ = m.from + 24 * c.loop-j.j
-    in let none = ok_none (first_fault (entry_checks b m.size q (entry_at b q))) c.in_default.field-0 tt c.in_default.ensures
+    in let none = ok_none (first_fault (entry_checks b m.size q (entry_at b q))) c.in_default-entry_at.field-0 tt c.in_default-entry_at.ensures
     in entry_more b c.reading.i _ _ m c.loop-j.j c.loop-j.invariant none.0
 
 pub reading-preserved : goal.reading-preserved
 reading-preserved c =
     elim c.match-told.branch [
-      | in-None w ↦
+      | in_default w ↦
           rw (w.refused-is, w.parts-is)
-          (passed_over c.args.table.headers.bytes.now c.reading.i _ c.reading.parts c.reading.invariant (ap Ok (sym w.in-None.is) ∙ c.in-Ok.ensures))
+          (passed_over c.args.table.headers.bytes.now c.reading.i _ c.reading.parts c.reading.invariant (ap Ok (sym w.in_default.is) ∙ c.in-Ok.ensures))
       | in-Some+else-loop-j-test w ↦
           rw (w.refused-is, w.parts-is)
           (out c.args.table.headers.bytes.now c.reading.i _ _ w.in-Some.part w.loop-j.j w.loop-j.invariant (omega arith))
     ]
 
-pub returns-in-None-refused : goal.returns-in-None-refused
-returns-in-None-refused c =
+pub returns-in-None : goal.returns-in-None
+returns-in-None c =
     elim c.reading-test.branch [
       | else-reading-test w ↦
           let b = c.args.table.headers.bytes.now
