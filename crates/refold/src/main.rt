@@ -2,7 +2,7 @@
 
 #![tactic(auto)]
 
-use refolding::refold;
+use refolding::{Failure, refold};
 use std::io;
 use std::io::{Read, Write};
 use std::process::ExitCode;
@@ -15,11 +15,11 @@ fn load(rt: &HostRuntime) -> io::Result<Vec<u8>> {
 }
 
 fn main(rt: HostRuntime) -> anyhow::Result<ExitCode> {
-    let output = refold(rt.alloc(), load(&rt)?)?;
-    rt.stdout().write_all(output.text.as_slice())?;
-    if output.refused {
-        Ok(ExitCode::FAILURE)
-    } else {
-        Ok(ExitCode::SUCCESS)
-    }
+    let (text, status) = match refold(rt.alloc(), load(&rt)?) {
+        Ok(table) => (table, ExitCode::SUCCESS),
+        Err(Failure::Refused(row)) => (row, ExitCode::FAILURE),
+        Err(Failure::Memory(error)) => return Err(error.into()),
+    };
+    rt.stdout().write_all(text.as_slice())?;
+    Ok(status)
 }

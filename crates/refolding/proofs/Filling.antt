@@ -1,6 +1,7 @@
 -- A buffer that is as long as the text that is written into it.
 use Rattle.std.proofs.Common.{◌≡◌, ℕ, ◌≤◌, Bool, true, false, cond, leb, List, ◌++◌, length, take, drop, Ok, Err, Result, sym, ap, ◌∙◌, arith}
 use Rattle.std.proofs.lemmas.List.{append-nil, take_at, drop_all}
+use Rattle.std.specs.Prelude.{MatchResult}
 use Rattle.fault.specs.declared.Fault.{Fault}
 use Rattle.row_writer.specs.Writing.{small, wrote, put}
 use Rattle.row_writer.proofs.Puts.{put_fits}
@@ -15,13 +16,11 @@ length_in_err : (x : Bool) (k : ℕ) (f : Fault) → ◌≡◌ {A = Result ℕ F
 length_in_err true k f h = cc
 length_in_err false k f h = let e : f ≡ small k = cc in ap (λ (x : Fault). x.place) e
 
-pub wrote_ok : (row b : List ℕ) (n : ℕ) → Ok n ≡ wrote row b → n ≡ length row
+-- the length of a text, from what is answered where it is written
+pub wrote_either : (row b : List ℕ) (r : Result ℕ Fault) (n : ℕ) → r ≡ wrote row b → MatchResult r (λ x. n ≡ x) (λ e. n ≡ e.place) → n ≡ length row
 unfolding wrote
-wrote_ok row b n h = length_in_ok (leb (length row) (length b)) (length row) n h
-
-pub wrote_err : (row b : List ℕ) (f : Fault) → Err f ≡ wrote row b → f.place ≡ length row
-unfolding wrote
-wrote_err row b f h = length_in_err (leb (length row) (length b)) (length row) f h
+wrote_either row b (Ok k) n h e = e ∙ length_in_ok (leb (length row) (length b)) (length row) k h
+wrote_either row b (Err f) n h e = e ∙ length_in_err (leb (length row) (length b)) (length row) f h
 
 pub put_whole : (row b : List ℕ) → length b ≡ length row → put row b ≡ row
 put_whole row b h =

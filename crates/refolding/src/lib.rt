@@ -2,11 +2,11 @@
 
 #![tactic(auto)]
 
-ghost use Rattle.std.specs.Prelude.{◌≡◌, true, false, length, IfOk};
+ghost use Rattle.std.specs.Prelude.{◌≡◌, length, IfOk, IfErr};
 ghost use Rattle.row_writer.specs.Writing.{fault_row};
 ghost use Rattle.layout.specs.Layout.{text_of};
 ghost use Rattle.table.specs.Meaning.{graph_held};
-ghost use Rattle.refolding.specs.Printed.{too_long, refolded, printed, is_refused};
+ghost use Rattle.refolding.specs.Printed.{too_long, refolded, IsFaultRow, IsTable, IsRefusal};
 
 use calls::Call;
 use fault::{Fault, Kind, Layer};
@@ -17,32 +17,37 @@ use std::alloc::{AllocError, Global};
 use table::Table;
 use table_writer::{table_length, write_table};
 
-// What is printed, and whether the text was refused.
+// Why no table is answered.
 #[derive(Drop)]
-pub struct Output {
-    pub text: Vec<u8>,
-    pub refused: bool,
+pub enum Failure {
+    // the text is refused, and this is the row that tells it
+    Refused(Vec<u8>),
+    // want of memory
+    Memory(AllocError),
+}
+
+impl From<AllocError> for Failure {
+    ghost use Rattle.refolding.specs.declared.Failure.TheVariants.{Memory};
+
+    ghost from_gives = { λ error r. r ≡ Memory error };
+
+    fn from(error: AllocError) -> Failure {
+        Failure::Memory(error)
+    }
 }
 
 // The refusal of a text that is too long.
 fn too_long() -> Fault
     ensures { result ≡ too_long }
 {
-    Fault {
-        kind: Kind::Oversize,
-        place: 65536,
-        layer: Layer::Output,
-    }
+    Fault::new(Kind::Oversize, 65536, Layer::Output)
 }
 
 // How long the row of a refusal is: a buffer with no room is refused with the length needed.
 fn row_length(fault: &Fault) -> usize
     ensures { result ≡ length (fault_row fault.now) }
 {
-    match write_fault(fault, &mut []) {
-        Ok(length) => length,
-        Err(small) => small.place as usize,
-    }
+    write_fault(fault, &mut []).unwrap_or_else(|small| small.place as usize)
 }
 
 // The row of a refusal.
@@ -56,7 +61,6 @@ fn fault_text(heap: Global, fault: &Fault) -> Result<Vec<u8>, AllocError>
 
 // The table of a section graph.
 fn table_text<G: SectionGraph>(heap: Global, graph: &G) -> Result<Vec<u8>, AllocError>
-    requires { G.SectionGraph.sound graph.now }
     ensures { IfOk result (λ v. v.items ≡ text_of (G.SectionGraph.graph graph.now)) }
 {
     let mut text = vec![in heap; 0u8; table_length(graph)]?;
@@ -64,39 +68,32 @@ fn table_text<G: SectionGraph>(heap: Global, graph: &G) -> Result<Vec<u8>, Alloc
     Ok(text)
 }
 
-// What is printed of a refusal.
-fn refusal(heap: Global, fault: &Fault) -> Result<Output, AllocError>
-    ensures { IfOk result (λ o. (o.text.items ≡ fault_row fault.now) × (o.refused ≡ true)) }
+// What is answered of a text that is refused.
+fn refused(heap: Global, fault: &Fault) -> Failure
+    ensures { IsFaultRow fault.now result }
 {
-    let text = fault_text(heap, fault)?;
-    Ok(Output {
-        text,
-        refused: true,
-    })
+    match fault_text(heap, fault) {
+        Ok(row) => Failure::Refused(row),
+        Err(error) => Failure::Memory(error),
+    }
 }
 
-// What is printed of a table that was read.
-fn accepted(heap: Global, table: Table) -> Result<Output, AllocError>
-    ensures { IfOk result (λ o. (o.text.items ≡ text_of (refolded (graph_held table))) × (o.refused ≡ false)) }
+// The table of a table that was read, swept and folded.
+fn accepted(heap: Global, table: Table) -> Result<Vec<u8>, AllocError>
+    ensures { IfOk result (λ v. v.items ≡ text_of (refolded (graph_held table))) }
 {
-    let pile = run(table, &[Call::Sweep, Call::Fold]);
-    let text = table_text(heap, &pile)?;
-    Ok(Output {
-        text,
-        refused: false,
-    })
+    table_text(heap, &run(table, &[Call::Sweep, Call::Fold]))
 }
 
 // Reads a text of at most 65,536 bytes as a section table, sweeps and folds it, and answers its table, or the row of the refusal.
-pub fn refold(heap: Global, text: Vec<u8>) -> Result<Output, AllocError>
-    ensures { IfOk result (λ o. (o.text.items ≡ printed text.items) × (o.refused ≡ is_refused text.items)) }
+pub fn refold(heap: Global, text: Vec<u8>) -> Result<Vec<u8>, Failure>
+    ensures table { IfOk result (IsTable text.items) }
+    ensures refusal { IfErr result (IsRefusal text.items) }
 {
     if text.len() > 65536 {
-        return refusal(heap, &too_long());
+        return Err(refused(heap, &too_long()));
     }
     let mut table = Table::new(heap);
-    match table.read(text) {
-        Ok(()) => accepted(heap, table),
-        Err(fault) => refusal(heap, &fault),
-    }
+    table.read(text).map_err(|fault| refused(heap, &fault))?;
+    Ok(accepted(heap, table)?)
 }
