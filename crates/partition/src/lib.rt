@@ -2,7 +2,7 @@
 
 #![tactic(auto)]
 
-ghost use Rattle.std.specs.Prelude.{◌≡◌, ℕ, ◌<◌, ◌≤◌, slice_index, unwrap_or};
+ghost use Rattle.std.specs.Prelude.{◌≡◌, ℕ, ◌<◌, ◌≤◌, IfSome, slice_index, unwrap_or};
 ghost use Rattle.model.specs.Graph.{count_of};
 ghost use Rattle.steps.specs.Below.{table};
 ghost use Rattle.unfolding.specs.Groups.{foldable};
@@ -52,6 +52,8 @@ pub fn partition<G: SectionGraph>(graph: &G, class: &mut [u16; 1024]) -> u16
 }
 
 // Goes on from the classes at depth 0, depth by depth, until a round changes nothing; as many rounds as there are sections are enough.
+//
+// A function of its own, so that the limit is proved to be the count where it is given.
 fn settle<G: SectionGraph>(
     graph: &G,
     bases: &[Option<Base>; 1024],
@@ -77,7 +79,8 @@ fn settle<G: SectionGraph>(
 // The lowest number from `first` on and below `end` that passes.
 fn lowest<F: Fn(u16) -> bool>(first: u16, end: u16, passes: F) -> Option<u16>
     requires { (t : ℕ) → first ≤ t → t < end → F.pre passes t }
-    ensures { Finds (F.post passes) first end (unwrap_or result end) }
+    ensures inside { IfSome result (λ m. m < end) }
+    ensures lowest { Finds (F.post passes) first end (unwrap_or result end) }
 {
     (first..end).find(
         |&t|
@@ -158,7 +161,7 @@ fn base_of<G: SectionGraph>(graph: &G, bases: &[Option<Base>; 1024], s: u16) -> 
     Some(Base { leader, digest })
 }
 
-// The base of each foldable section.
+// The base of each foldable section. A loop over the numbers, since each base is found from those before it.
 fn bases<G: SectionGraph>(graph: &G) -> [Option<Base>; 1024]
     ensures { Bases (G.SectionGraph.graph graph.now) result }
 {
@@ -170,7 +173,7 @@ fn bases<G: SectionGraph>(graph: &G) -> [Option<Base>; 1024]
     bases
 }
 
-// A round: from the classes at one depth those at the next.
+// A round: from the classes at one depth those at the next. A loop over the numbers, since each class is found from those before it.
 fn refine<G: SectionGraph>(
     graph: &G,
     bases: &[Option<Base>; 1024],
