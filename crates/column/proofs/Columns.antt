@@ -25,10 +25,10 @@ own = numerals_by_fold _ (search rules) after (search rules)
 
 cond_some : {X : Type 0} (b : Bool) (o : Option X) (x : X) → cond b o None ≡ Some x → (b ≡ true) × (o ≡ Some x)
 cond_some true o x h = (refl, h)
-cond_some false o x h = let z : ◌≡◌ {A = ℕ} 0 1 = cc in absurd (omega arith)
+cond_some false o x h = cc
 
 cond_other : {X : Type 0} (b : Bool) (o : Option X) (x : X) → cond b None o ≡ Some x → (b ≡ false) × (o ≡ Some x)
-cond_other true o x h = let z : ◌≡◌ {A = ℕ} 0 1 = cc in absurd (omega arith)
+cond_other true o x h = cc
 cond_other false o x h = (refl, h)
 
 gathered_from : (s : ℕ) (ds : List ℕ) → all_digits ds ≡ true → gathered s ds ≡ Some (after s ds)
@@ -64,7 +64,7 @@ natural_decimal n h =
 
 -- the digits that are read are those that the number is written with
 pub natural_only : (ds : List ℕ) (n : ℕ) → length ds ≤ 18 → natural ds ≡ Some n → (decimal n ≡ ds) × (n < 10 ^ 18)
-natural_only [] n short h = let z : ◌≡◌ {A = ℕ} 0 1 = cc in absurd (omega arith)
+natural_only [] n short h = cc
 natural_only (d ∷ []) n short h =
     let g = gathered_only 0 n (d ∷ []) h in
     let small = digits_value_short own (d ∷ []) 18 g.0 short in (
@@ -131,12 +131,12 @@ length_columns w (z ∷ zs) h =
 -- only what is written is read
 
 positive_only : (o : Option ℕ) (z : ℤ) → positive o ≡ Some z → (n : ℕ) × (o ≡ Some n) × (z ≡ pos n)
-positive_only None z h = let e : ◌≡◌ {A = ℕ} 0 1 = cc in absurd (omega arith)
+positive_only None z h = cc
 positive_only (Some n) z h = (n, refl, cc)
 
 negative_only : (o : Option ℕ) (z : ℤ) → negative o ≡ Some z → (n : ℕ) × (o ≡ Some (suc n)) × (z ≡ negsuc n)
-negative_only None z h = let e : ◌≡◌ {A = ℕ} 0 1 = cc in absurd (omega arith)
-negative_only (Some zero) z h = let e : ◌≡◌ {A = ℕ} 0 1 = cc in absurd (omega arith)
+negative_only None z h = cc
+negative_only (Some zero) z h = cc
 negative_only (Some (suc n)) z h = (n, refl, cc)
 
 number_by : (c : ℕ) (cs : List ℕ) (z : ℤ) (b : Bool)
@@ -155,7 +155,7 @@ number_by c cs z false e short h =
     rw p.2 (sym q.0, omega (arith, q.1))
 
 pub number_only : (xs : List ℕ) (z : ℤ) → length xs ≤ 18 → number xs ≡ Some z → (xs ≡ signed_decimal z) × (mag z < 2 ^ 63)
-number_only [] z short h = let e : ◌≡◌ {A = ℕ} 0 1 = cc in absurd (omega arith)
+number_only [] z short h = cc
 number_only (c ∷ cs) z short h = number_by c cs z (eqb c 45) refl (omega arith) h
 
 abbrev Only : List ℕ → ℤ → Type 0
@@ -186,7 +186,7 @@ pub column_only : (xs : List ℕ) (z : ℤ)
     → read_column xs ≡ Some z
     → (xs ≡ column (length xs) z) × ((length (signed_decimal z) ≤ length xs) × (mag z < 2 ^ 63))
 unfolding read_column
-column_only [] z short h = let e : ◌≡◌ {A = ℕ} 0 1 = cc in absurd (omega arith)
+column_only [] z short h = cc
 column_only (c ∷ cs) z short h =
     only_by c cs z (eqb c 32) refl (omega arith) (λ r. column_only cs z (omega arith) r) h
 

@@ -1,11 +1,15 @@
 -- Numbers in columns, as the rows of a table have them.
-use Rattle.std.specs.Prelude.{◌≡◌, ℕ, zero, suc, ◌+◌, ◌-◌, ◌*◌, ◌^◌, ◌<◌, ◌≤◌, Bool, cond, ◌&&◌, List, [], ◌∷◌, ◌++◌, length, replicate, ℤ, pos, negsuc, Some, None, Option, ◌==◌, nat_le}
+use Rattle.std.specs.Prelude.{◌≡◌, ℕ, zero, suc, ◌+◌, ◌-◌, ◌*◌, ◌^◌, ◌<◌, ◌≤◌, Bool, cond, ◌&&◌, List, [], ◌∷◌, ◌++◌, length, replicate, ℤ, pos, negsuc, Some, None, Option, ◌==◌, nat_le, decimal}
 use Rattle.std.specs.Int.Signed.{mag}
 use Rattle.std.specs.Fmt.{signed_decimal}
 
 -- a text right-justified in w columns, with blanks before it
 abbrev pub justified : ℕ → List ℕ → List ℕ
 justified w t = replicate (w - length t) 32 ++ t
+
+-- the text of a size, with a minus directly before its digits or none
+abbrev pub signed : Bool → ℕ → List ℕ
+signed minus size = cond minus (45 ∷ decimal size) (decimal size)
 
 -- a number right-justified in w columns, with a minus directly before its digits if it is negative
 abbrev pub column : ℕ → ℤ → List ℕ

@@ -3,9 +3,11 @@
 
 #![tactic(auto)]
 
-ghost use Rattle.std.specs.Prelude.{◌≡◌, suc, ◌+◌, ◌^◌, ◌<◌, ◌≤◌, ◌∷◌, ◌++◌, length, take, drop, replicate, pos, if◌then◌else◌, Some, decimal, MatchOption, nat_le};
+ghost use Rattle.std.specs.Prelude.{◌≡◌, ◌==◌, ◌^◌, ◌<◌, ◌≤◌, ◌↔◌, not, length, pos, Some, decimal, unwrap_or, position, IfSome, IsOk, OnOk, OnErr};
 ghost use Rattle.std.specs.Fmt.{signed_decimal};
-ghost use Rattle.column.specs.Columns.{justified, column, gathered, natural, negative, number, read_column, column_of, ReadBack, OnlyWritten};
+ghost use Rattle.column.specs.Columns.{justified, column, signed, gathered, natural, negative, number, read_column, column_of, ReadBack, OnlyWritten};
+
+use itoa::write_digits;
 
 // What is written in a column is read again, and nothing else is read.
 pub fn exact()
@@ -36,14 +38,9 @@ fn read_short(text: &[u8]) -> Option<i64>
 // Where the number begins: past the blanks.
 fn blanks(text: &[u8]) -> usize
     ensures within { result ≤ length text.now }
-    ensures passed { read_column text.now ≡ number (drop result text.now) }
+    ensures start { result ≡ unwrap_or (position (λ b. not (b == 32)) text.now) (length text.now) }
 {
-    for (i, b) in text.iter().enumerate() {
-        if *b != b' ' {
-            return i;
-        }
-    }
-    text.len()
+    text.iter().position(|b| *b != b' ').unwrap_or(text.len())
 }
 
 // The number that the whole text is.
@@ -51,16 +48,9 @@ fn read_number(text: &[u8]) -> Option<i64>
     requires { length text.now ≤ 18 }
     ensures { result ≡ number text.now }
 {
-    if text.len() > 0 && text[0] == b'-' {
-        match read_natural(&text[1..]) {
-            Some(n) => negated(n),
-            None => None,
-        }
-    } else {
-        match read_natural(text) {
-            Some(n) => Some(n as i64),
-            None => None,
-        }
+    match text {
+        [b'-', size @ ..] => negated(read_natural(size)?),
+        _ => Some(read_natural(text)? as i64),
     }
 }
 
@@ -69,134 +59,93 @@ fn negated(size: u64) -> Option<i64>
     requires { size < 2 ^ 63 }
     ensures { result ≡ negative (Some size) }
 {
-    if size > 0 { Some(-(size as i64)) } else { None }
+    (size > 0).then_some(-(size as i64))
 }
 
 // The number that the whole text is in digits, with no leading zero.
 fn read_natural(text: &[u8]) -> Option<u64>
     requires { length text.now ≤ 18 }
     ensures value { result ≡ natural text.now }
-    ensures small { MatchOption result Unit (λ n. n < 10 ^ 18) }
+    ensures small { IfSome result (λ n. n < 10 ^ 18) }
 {
-    if text.len() == 0 {
-        return None;
+    match text {
+        [] | [b'0', _, ..] => None,
+        _ => gather(text),
     }
-    if text.len() > 1 && text[0] == b'0' {
-        return None;
-    }
-    gather(text)
 }
 
 // The number that the digits write.
 fn gather(text: &[u8]) -> Option<u64>
     requires { length text.now ≤ 18 }
     ensures value { result ≡ gathered 0 text.now }
-    ensures small { MatchOption result Unit (λ n. n < 10 ^ 18) }
+    ensures small { IfSome result (λ n. n < 10 ^ 18) }
 {
-    let mut sum: u64 = 0;
+    let mut sum = 0;
     for d in text {
-        if *d < b'0' || *d > b'9' {
-            return None;
-        }
-        sum = sum * 10 + (*d - b'0') as u64;
+        let digit = char::from(*d).to_digit(10)?;
+        sum = sum * 10 + u64::from(digit);
     }
     Some(sum)
 }
 
 // How many digits a number is written with.
+#[tactic(auto, using(crate::proofs::Writing::length_by_logarithm))]
 pub fn digits(value: u64) -> usize
-    ensures { result ≡ length (decimal value) }
+    ensures long { result ≡ length (decimal value) }
+    ensures few { result ≤ 20 }
 {
-    let mut left = value;
-    let mut count = 1;
-    while left >= 10 {
-        left /= 10;
-        count += 1;
-    }
-    count
+    value.checked_ilog10().unwrap_or(0) as usize + 1
 }
 
+// Why a number is not written: its text is longer than its column.
+#[derive(Clone, Copy, PartialEq, Eq, Debug)]
+pub struct TooNarrow;
+
 // Fills the slice with the number right-justified where its digits fit, and else leaves it.
-pub fn write_natural(value: u64, out: &mut [u8]) -> bool
-    ensures fits { result ≡ nat_le (length (decimal value)) (length out.old) }
-    ensures filled { out.new ≡ (if result then column (length out.old) (pos value) else out.old) }
+pub fn write_natural(value: u64, out: &mut [u8]) -> Result<(), TooNarrow>
+    ensures fits { IsOk result ↔ (length (decimal value) ≤ length out.old) }
+    ensures filled { OnOk result (out.new ≡ column (length out.old) (pos value)) }
+    ensures kept { OnErr result (out.new ≡ out.old) }
 {
-    if digits(value) > out.len() {
-        return false;
-    }
-    fill_natural(value, out);
-    true
+    write_signed(false, value, out)
 }
 
 // Fills the slice with the number right-justified where it fits, and else leaves it.
-pub fn write_column(value: i64, out: &mut [u8]) -> bool
-    ensures fits { result ≡ nat_le (length (signed_decimal value)) (length out.old) }
-    ensures filled { out.new ≡ (if result then column (length out.old) value else out.old) }
+pub fn write_column(value: i64, out: &mut [u8]) -> Result<(), TooNarrow>
+    ensures fits { IsOk result ↔ (length (signed_decimal value) ≤ length out.old) }
+    ensures filled { OnOk result (out.new ≡ column (length out.old) value) }
+    ensures kept { OnErr result (out.new ≡ out.old) }
 {
-    if value < 0 {
-        write_negative(value.unsigned_abs(), out)
-    } else {
-        write_natural(value as u64, out)
+    write_signed(value < 0, value.unsigned_abs(), out)
+}
+
+// Fills the slice with the digits of a size, and with a minus before them or none, right-justified where they fit, and
+// else leaves it.
+fn write_signed(minus: bool, size: u64, out: &mut [u8]) -> Result<(), TooNarrow>
+    ensures fits { IsOk result ↔ (length (signed minus size) ≤ length out.old) }
+    ensures filled { OnOk result (out.new ≡ justified (length out.old) (signed minus size)) }
+    ensures kept { OnErr result (out.new ≡ out.old) }
+{
+    let needed = digits(size) + usize::from(minus);
+    if needed > out.len() {
+        return Err(TooNarrow);
     }
+    fill_signed(minus, size, out);
+    Ok(())
 }
 
-// Fills the slice with a minus and the digits right-justified where they fit, and else leaves it.
-fn write_negative(size: u64, out: &mut [u8]) -> bool
-    ensures fits { result ≡ nat_le (suc (length (decimal size))) (length out.old) }
-    ensures filled { out.new ≡ (if result then justified (length out.old) (45 ∷ decimal size) else out.old) }
+// Fills the slice with the digits, and a minus or none, which fit, right-justified.
+fn fill_signed(minus: bool, size: u64, out: &mut [u8])
+    requires { length (signed minus size) ≤ length out.old }
+    ensures { out.new ≡ justified (length out.old) (signed minus size) }
 {
-    if digits(size) >= out.len() {
-        return false;
+    let end = out.len();
+    let mut start = write_digits(size, out, end);
+    if minus {
+        start -= 1;
+        out[start] = b'-';
     }
-    fill_negative(size, out);
-    true
-}
-
-// Fills the slice with the digits, which fit, right-justified.
-fn fill_natural(value: u64, out: &mut [u8])
-    requires { length (decimal value) ≤ length out.old }
-    ensures { out.new ≡ justified (length out.old) (decimal value) }
-{
-    let start = put_digits(value, out);
-    put_blanks(start, out);
-}
-
-// Fills the slice with a minus and the digits, which fit, right-justified.
-fn fill_negative(size: u64, out: &mut [u8])
-    requires { length (decimal size) < length out.old }
-    ensures { out.new ≡ justified (length out.old) (45 ∷ decimal size) }
-{
-    let start = put_digits(size, out) - 1;
-    out[start] = b'-';
-    put_blanks(start, out);
-}
-
-// Writes the digits at the slice's end, from the right, and answers where they begin.
-fn put_digits(value: u64, out: &mut [u8]) -> usize
-    requires { length (decimal value) ≤ length out.old }
-    ensures begins { result + length (decimal value) ≡ length out.old }
-    ensures holds { out.new ≡ take result out.old ++ decimal value }
-{
-    let mut left = value;
-    let mut at = out.len();
-    while left >= 10 {
-        at -= 1;
-        out[at] = b'0' + (left % 10) as u8;
-        left /= 10;
-    }
-    at -= 1;
-    out[at] = b'0' + left as u8;
-    at
-}
-
-// Fills the slice with blanks up to `end`.
-fn put_blanks(end: usize, out: &mut [u8])
-    requires { end ≤ length out.old }
-    ensures { out.new ≡ replicate end 32 ++ drop end out.old }
-{
-    for i in 0..end {
-        out[i] = b' ';
-    }
+    out[..start].fill(b' ');
 }
 
 #[cfg(test)]
@@ -227,12 +176,12 @@ mod tests {
     #[test]
     fn writes(rt: HostRuntime) {
         let mut wide = [b'x'; 20];
-        assert!(rt; write_column(i64::MIN, &mut wide));
+        assert!(rt; write_column(i64::MIN, &mut wide).is_ok());
         assert_eq!(rt; wide, *b"-9223372036854775808");
         let mut narrow = [b'x'; 4];
-        assert!(rt; !write_column(-2048, &mut narrow));
+        assert!(rt; write_column(-2048, &mut narrow).is_err());
         assert_eq!(rt; narrow, *b"xxxx");
-        assert!(rt; write_column(0, &mut narrow));
+        assert!(rt; write_column(0, &mut narrow).is_ok());
         assert_eq!(rt; narrow, *b"   0");
     }
 }

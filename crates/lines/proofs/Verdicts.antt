@@ -9,9 +9,9 @@ module _ {S : Type 0} (step : S → List ℕ → Option S) (final : S → Bool) 
   -- rows that agree with accepted ones at the front are not refused there
   pub not_before : (k : ℕ) (ls us : List (List ℕ)) (q : S) (j : ℕ) → take k ls ≡ take k us → verdict step final us q ≡ None → verdict step final ls q ≡ Some j → k ≤ j
   not_before zero ls us q j e a r = omega arith
-  not_before (suc k) [] [] q j e a r = absurd (let z : ◌≡◌ {A = ℕ} 0 1 = cc in omega arith)
-  not_before (suc k) [] (u ∷ us) q j e a r = absurd (let z : ◌≡◌ {A = ℕ} 0 1 = cc in omega arith)
-  not_before (suc k) (l ∷ ls) [] q j e a r = absurd (let z : ◌≡◌ {A = ℕ} 0 1 = cc in omega arith)
+  not_before (suc k) [] [] q j e a r = cc
+  not_before (suc k) [] (u ∷ us) q j e a r = cc
+  not_before (suc k) (l ∷ ls) [] q j e a r = cc
   not_before (suc k) (l ∷ ls) (u ∷ us) q j e a r =
       let same : l ≡ u = cc in
       go (step q l) j r (subst (λ (x : List ℕ). after (verdict step final us) (step q x) ≡ None) (sym same) a)
@@ -19,12 +19,12 @@ module _ {S : Type 0} (step : S → List ℕ → Option S) (final : S → Bool) 
     where
       go : (o : Option S) (i : ℕ) → after (verdict step final ls) o ≡ Some i → after (verdict step final us) o ≡ None
           → ((p : S) (m : ℕ) → verdict step final us p ≡ None → verdict step final ls p ≡ Some m → k ≤ m) → suc k ≤ i
-      go None i h n deeper = absurd (let z : ◌≡◌ {A = ℕ} 0 1 = cc in omega arith)
+      go None i h n deeper = cc
       go (Some p) i h n deeper = behind (verdict step final ls p) (verdict step final us p) refl refl h n
         where
           behind : (v w : Option ℕ) → verdict step final ls p ≡ v → verdict step final us p ≡ w → later v ≡ Some i → later w ≡ None → suc k ≤ i
-          behind None w e f x y = absurd (let z : ◌≡◌ {A = ℕ} 0 1 = cc in omega arith)
-          behind (Some m) (Some n') e f x y = absurd (let z : ◌≡◌ {A = ℕ} 0 1 = cc in omega arith)
+          behind None w e f x y = cc
+          behind (Some m) (Some n') e f x y = cc
           behind (Some m) None e f x y = let at : suc m ≡ i = cc in omega (arith, deeper p m f e)
 
   -- the place of the row that the verdict names, from the rows' own lengths

@@ -614,7 +614,7 @@ branch P c k x y e h here next = go (eqb c k) refl h
     go false t r = next r
 
 none_ok : (P : Type 0) (c : Cause) (e : Entry) → ◌≡◌ {A = Result Entry Cause} (Err c) (Ok e) → P
-none_ok P c e h = let z : ◌≡◌ {A = ℕ} 0 1 = cc in absurd (omega arith)
+none_ok P c e h = cc
 
 pub row_only : (t : List ℕ) (e : Entry)
     → read_row t ≡ Ok e
@@ -687,10 +687,10 @@ byte_column bs k t h low =
 
 counted_only : (r : Result (List ℕ) Cause) (n : ℕ) → counted r ≡ Ok n → (bs : List ℕ) × (r ≡ Ok bs) × (length bs ≡ n)
 counted_only (Ok bs) n h = (bs, refl, cc)
-counted_only (Err e) n h = let z : ◌≡◌ {A = ℕ} 0 1 = cc in absurd (omega arith)
+counted_only (Err e) n h = cc
 
 counted_err : (r : Result (List ℕ) Cause) (e : Cause) → counted r ≡ Err e → r ≡ Err e
-counted_err (Ok bs) e h = let z : ◌≡◌ {A = ℕ} 0 1 = cc in absurd (omega arith)
+counted_err (Ok bs) e h = cc
 counted_err (Err d) e h = cc
 
 pub bytes_refused : (t : List ℕ) (e : Cause) → counted (row_bytes t) ≡ Err e → read_bytes t ≡ Err e

@@ -48,12 +48,12 @@ impl<'a> Row<'a> {
         ensures { result.now ≡ part_of self.now }
     {
         match self {
-            Row::Header { part, .. } => part,
-            Row::Section { part, .. } => part,
-            Row::Bytes { part, .. } => part,
-            Row::Relocation { part, .. } => part,
-            Row::Root { part, .. } => part,
-            Row::End { part, .. } => part,
+            Row::Header { part, .. }
+            | Row::Section { part, .. }
+            | Row::Bytes { part, .. }
+            | Row::Relocation { part, .. }
+            | Row::Root { part, .. }
+            | Row::End { part, .. } => part,
         }
     }
 }
@@ -75,23 +75,24 @@ pub fn read_row(text: &[u8]) -> Result<Row<'_>, Cause>
     row_at(text)
 }
 
+// The setting that a number stands for. The numbers belong to the table and not to the model, whose crate alone could
+// have a `From` or `TryFrom`.
 fn setting_of(number: u16) -> Setting
     ensures { result ≡ setting_of number }
 {
-    if number == 0 {
-        Setting::Foldable
-    } else {
-        Setting::Pinned
+    match number {
+        0 => Setting::Foldable,
+        _ => Setting::Pinned,
     }
 }
 
+// The target that a kind and a number stand for, for which the same holds.
 fn target_of(kind: u16, number: u16) -> Target
     ensures { result ≡ target_of kind number }
 {
-    if kind == 0 {
-        Target::Section(number)
-    } else {
-        Target::Outside(number)
+    match kind {
+        0 => Target::Section(number),
+        _ => Target::Outside(number),
     }
 }
 
@@ -99,7 +100,7 @@ fn target_of(kind: u16, number: u16) -> Target
 fn record_at(text: &[u8]) -> Result<Record, Cause>
     ensures { result ≡ record_at text.now }
 {
-    let flags = word_at(text, 13, 4294967295)?;
+    let flags = word_at(12, text, 13, 4294967295)?;
     let alignment = alignment_at(text, 25)?;
     let size = short_at(12, text, 37, 65535)?;
     let relocations = short_at(12, text, 49, 65535)?;
@@ -125,9 +126,9 @@ fn relocation_at(text: &[u8]) -> Result<Relocation, Cause>
     ensures { result ≡ relocation_at text.now }
 {
     let offset = short_at(12, text, 1, 65534)?;
-    let kind = word_at(text, 13, 4294967295)?;
+    let kind = word_at(12, text, 13, 4294967295)?;
     let target = target_at(text)?;
-    let displacement = displacement_at(text, 49, &target)?;
+    let displacement = displacement_at(text, 49, target)?;
     Ok(Relocation {
         offset,
         kind,
@@ -171,7 +172,7 @@ fn byte_count(text: &[u8]) -> Result<u16, Cause>
     short_at(4, text, 1, 255)?;
     for count in 1..16u16 {
         let at = 1 + 4 * usize::from(count);
-        if byte_at(text, at) == 10 {
+        if byte_at(text, at) == Some(b'\n') {
             return Ok(count);
         }
         short_at(4, text, at, 255)?;
@@ -221,7 +222,8 @@ fn row_at(text: &[u8]) -> Result<Row<'_>, Cause>
     ensures row { answer result ≡ read_by (slice_index text.now 0) text.now }
     ensures cut { Cut text.now result }
 {
-    match byte_at(text, 0) as char {
+    let letter = byte_at(text, 0).ok_or(Cause::Letter)?;
+    match char::from(letter) {
         'H' => read_header(text),
         'S' => read_section(text),
         'B' => read_bytes(text),

@@ -4,7 +4,9 @@ use lib.Signed.{mag}
 use Rattle.std.specs.Fmt.{signed_decimal}
 use Rattle.std.specs.List.{AllByRecursion}
 use Rattle.std.proofs.lemmas.List.{length-append, length-drop, length-take-le, take-append-drop, take_at, drop_at, drop-drop, drop_more, get_or_past, get_or-drop}
-use Rattle.std.proofs.lemmas.Bool.{cases_lt, cond-true, eqb-true, eq-eqb, leb-true, le-leb}
+use Rattle.std.specs.Prelude.{slice_get}
+use Rattle.std.proofs.lemmas.Option.{slice_get-get_or}
+use Rattle.std.proofs.lemmas.Bool.{cases_lt, cond-true, cond-false, ne_eqb, eqb-true, eq-eqb, leb-true, le-leb}
 use Rattle.column.specs.Columns.{column, columns, read_column, column_of}
 use Rattle.column.proofs.Columns.{column_reads, column_only, length_column}
 use Rattle.row_part.specs.declared.Cause.TheVariants.{Column, Range, End}
@@ -26,16 +28,16 @@ pub and_then_only : {A B E : Type 0} (r : Result A E) (f : A → Result B E) (b 
     → and_then r f ≡ Ok b
     → (a : A) × (r ≡ Ok a) × (f a ≡ Ok b)
 and_then_only (Ok a) f b h = (a, refl, h)
-and_then_only (Err e) f b h = let z : ◌≡◌ {A = ℕ} 0 1 = cc in absurd (omega arith)
+and_then_only (Err e) f b h = cc
 
 pub cond_only : {A E : Type 0} (b : Bool) (r : Result A E) (e : E) (a : A)
     → cond b r (Err e) ≡ Ok a
     → (b ≡ true) × (r ≡ Ok a)
 cond_only true r e a h = (refl, h)
-cond_only false r e a h = let z : ◌≡◌ {A = ℕ} 0 1 = cc in absurd (omega arith)
+cond_only false r e a h = cc
 
 formed_only : (o : Option ℤ) (z : ℤ) → formed o ≡ Ok z → o ≡ Some z
-formed_only None z h = let y : ◌≡◌ {A = ℕ} 0 1 = cc in absurd (omega arith)
+formed_only None z h = cc
 formed_only (Some x) z h = cc
 
 pub bounded_only : (limit : ℕ) (z : ℤ) (n : ℕ) → bounded limit z ≡ Ok n → (z ≡ pos n) × (n ≤ limit)
@@ -43,7 +45,7 @@ bounded_only limit (pos m) n h =
     let p = cond_only (leb m limit) (Ok m) Range n h in
     let same : m ≡ n = cc p.1 in
     (ap pos same, omega (arith, leb-true m limit p.0))
-bounded_only limit (negsuc m) n h = let y : ◌≡◌ {A = ℕ} 0 1 = cc in absurd (omega arith)
+bounded_only limit (negsuc m) n h = cc
 
 -- what stands where a number is read
 
@@ -56,7 +58,7 @@ column_of_only xs z h = go (leb (length xs) 18) h
   where
     go : (b : Bool) → cond b (read_column xs) None ≡ Some z → read_column xs ≡ Some z
     go true e = e
-    go false e = let y : ◌≡◌ {A = ℕ} 0 1 = cc in absurd (omega arith)
+    go false e = cc
 
 pub column_held : (w : ℕ) (t : List ℕ) (at : ℕ) (z : ℤ) → w ≤ 18 → column_at w t at ≡ Ok z → Held w t at z
 column_held w t at z small h =
@@ -94,6 +96,17 @@ end_held t at k h =
     go : get_or t at 0 ≡ 10 → (at < length t) ⊎ (length t ≤ at) → drop at t ≡ 10 ∷ drop (at + 1) t
     go ten (inl low) = drop_more t at 0 low ∙ ap (λ (x : ℕ). x ∷ drop (at + 1) t) ten
     go ten (inr high) = absurd (omega (arith, get_or_past t at 0 high, ten))
+
+-- no byte 10 stands at a place
+pub not_ten : (t : List ℕ) (at : ℕ) → (slice_get t at ≡ Some 10 → ⊥) → get_or t at 0 ≡ 10 → ⊥
+not_ten t at other ten = go (cases_lt at (length t))
+  where
+    go : (at < length t) ⊎ (length t ≤ at) → ⊥
+    go (inl low) = other (slice_get-get_or t at 0 low ∙ ap (λ (x : ℕ). Some x) ten)
+    go (inr high) = absurd (omega (arith, get_or_past t at 0 high, ten))
+
+pub end_missed : (t : List ℕ) (at : ℕ) → (slice_get t at ≡ Some 10 → ⊥) → end_at t at ≡ Err End
+end_missed t at other = cond-false _ _ _ (ne_eqb (get_or t at 0) 10 (not_ten t at other))
 
 -- what is read where a number stands
 

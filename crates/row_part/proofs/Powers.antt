@@ -1,16 +1,12 @@
 -- The test for a power of two.
-use Rattle.std.proofs.Common.{◌≡◌, ℕ, zero, suc, ◌+◌, ◌^◌, ◌<◌, ◌≤◌, Bool, true, false, cond, eqb, ◌⊎◌, sym, refl, ap, ◌∙◌, inl, inr, add-one, arith}
-use Rattle.std.proofs.lemmas.Bool.{cases_lt, cond-false, eq-eqb, ne_eqb, eqb-true}
+use Rattle.std.proofs.Common.{◌≡◌, ℕ, zero, suc, ◌+◌, ◌/◌, ◌%◌, ◌^◌, ◌<◌, ◌≤◌, Bool, true, false, cond, eqb, leb, ◌⊎◌, sym, refl, ap, ◌∙◌, inl, inr, pow-suc, pow_mono, arith}
+use Rattle.std.specs.Prelude.{count_ones}
+use Rattle.std.specs.Int.{is_power_of_two}
+use lib.Count.{ones_step, ones-ones, ones-le}
+use Rattle.std.proofs.lemmas.Nat.{zero_from_ones}
+use Rattle.std.proofs.lemmas.Bool.{cases_lt, eq-eqb, eqb-true, leb-true}
 use Rattle.model.specs.Laws.{Alignment}
 use Rattle.row_part.specs.Parts.{power_below}
-
-pub power_none : (a : ℕ) → power_below 0 a ≡ false
-unfolding power_below
-power_none a = refl
-
-pub power_more : (k a : ℕ) → (a ≡ 2 ^ k → ⊥) → power_below k a ≡ false → power_below (k + 1) a ≡ false
-unfolding power_below
-power_more k a other h = rw (add-one k) (cond-false (eqb a (2 ^ k)) true (power_below k a) (ne_eqb a (2 ^ k) other) ∙ h)
 
 pub power_found : (k i a : ℕ) → i < k → a ≡ 2 ^ i → power_below k a ≡ true
 unfolding power_below
@@ -27,12 +23,11 @@ power_found (suc k) i a h e = go (eqb a (2 ^ k)) refl (cases_lt i k) (λ low. po
     go false t (inr high) rest =
         let at : i ≡ k = omega arith in
         let z : true ≡ false = sym (eq-eqb a (2 ^ k) (e ∙ ap (λ n. 2 ^ n) at)) ∙ t in
-        let y : ◌≡◌ {A = ℕ} 0 1 = cc in
-        absurd (omega arith)
+        cc
 
 pub power_only : (k a : ℕ) → power_below k a ≡ true → (i : ℕ) × (i < k) × (a ≡ 2 ^ i)
 unfolding power_below
-power_only zero a h = let y : ◌≡◌ {A = ℕ} 0 1 = cc in absurd (omega arith)
+power_only zero a h = cc
 power_only (suc k) a h = go (eqb a (2 ^ k)) refl h (λ r. power_only k a r)
   where
     go : (b : Bool)
@@ -48,3 +43,47 @@ alignment_tested a (k, low, e) = power_found 17 k a (omega arith) e
 
 pub tested_alignment : (a : ℕ) → power_below 17 a ≡ true → Alignment a
 tested_alignment a h = let p = power_only 17 a h in (p.0, omega (arith, p.1), p.2)
+
+-- a power of two has one bit, and nothing else has
+
+power_bits : (i : ℕ) → count_ones (2 ^ i) ≡ 1
+power_bits zero = ones-ones 1
+power_bits (suc i) =
+    let power = pow-suc 2 i in
+    let low : 2 ^ suc i % 2 ≡ 0 = omega (arith, power) in
+    let rest : 2 ^ suc i / 2 ≡ 2 ^ i = omega (arith, power) in
+    ones_step (2 ^ suc i) ∙ ap (λ n. n + count_ones (2 ^ suc i / 2)) low ∙ ap (λ n. 0 + count_ones n) rest ∙ omega (arith, power_bits i)
+
+one_bit : (k n : ℕ) → n < 2 ^ k → count_ones n ≡ 1 → (i : ℕ) × (i < k) × (n ≡ 2 ^ i)
+one_bit zero n h e = absurd (omega (arith, e, ones-le 0 n h))
+one_bit (suc k) n h e = go (cases_lt (n % 2) 1) (one_bit k (n / 2) (omega (arith, pow-suc 2 k)))
+  where
+    go : (n % 2 < 1) ⊎ (1 ≤ n % 2)
+        → (count_ones (n / 2) ≡ 1 → (i : ℕ) × (i < k) × (n / 2 ≡ 2 ^ i))
+        → (i : ℕ) × (i < suc k) × (n ≡ 2 ^ i)
+    go (inl low) rest =
+        let p = rest (omega (arith, e, ones_step n)) in
+        (suc p.0, omega (arith, p.1), omega (arith, p.2, pow-suc 2 p.0))
+    go (inr high) rest =
+        let none : n / 2 ≡ 0 = zero_from_ones (n / 2) (omega (arith, e, ones_step n)) in
+        (0, omega arith, omega (arith, none))
+
+same : (b c : Bool) → (b ≡ true → c ≡ true) → (c ≡ true → b ≡ true) → b ≡ c
+same true c to back = sym (to refl)
+same false true to back = back refl
+same false false to back = refl
+
+pub one_bit_tested : (a : ℕ) → a ≤ 65536 → is_power_of_two a ≡ power_below 17 a
+one_bit_tested a low =
+    same _ _
+    (λ h. let q = one_bit 17 a (omega arith) (eqb-true (count_ones a) 1 h) in power_found 17 q.0 a q.1 q.2)
+    (λ h. let q = power_only 17 a h in eq-eqb (count_ones a) 1 (ap count_ones q.2 ∙ power_bits q.0))
+
+-- a number above 65,536 is no power that is asked for
+pub large_tested : (a : ℕ) → 65536 < a → leb a 65536 ≡ power_below 17 a
+large_tested a high =
+    same _ _
+    (λ h. absurd (omega (arith, leb-true a 65536 h)))
+    (λ h.
+    let q = power_only 17 a h in
+    absurd (omega (arith, q.2, pow_mono {i = q.0} {j = 16} (omega (arith, q.1)))))

@@ -1,17 +1,11 @@
 -- Columns written one after another over the front of a buffer.
-use Rattle.std.proofs.Common.{◌≡◌, ℕ, suc, ◌+◌, ◌-◌, ◌*◌, ◌^◌, ◌<◌, ◌≤◌, List, [], ◌∷◌, ◌++◌, map, length, get_or, take, drop, set, ℤ, pos, sym, refl, ap, ◌∙◌, subst, append_assoc, one-add, arith}
+use Rattle.std.proofs.Common.{◌≡◌, ℕ, suc, ◌+◌, ◌-◌, ◌<◌, ◌≤◌, List, [], ◌∷◌, ◌++◌, map, length, get_or, take, drop, set, sum_by, ℤ, pos, sym, refl, ap, ◌∙◌, append_assoc, one-add, arith}
 use borrow.Rule.Slice.PartMut.{put_mid}
 use Rattle.std.proofs.lemmas.List.{append-nil, length-append, length-drop, length-take-le, take-append-drop, length-set, take_all, take_at, drop_all, drop_at, drop-drop, drop_more, set_at, get_or-map, length-map, take_more}
-use Rattle.std.specs.Fmt.{signed_decimal}
-use Rattle.std.specs.List.{AllByRecursion}
-use Rattle.std.proofs.ByRecursion.{All-from_get_or, All-map}
+use Rattle.std.proofs.lemmas.List.Recursion.{is_sum_by}
 use Rattle.column.specs.Columns.{column, columns}
-use Rattle.row_writer.specs.declared.Number.{Number}
-use Rattle.row_writer.specs.declared.Number.TheVariants.{Natural}
-use Rattle.row_writer.specs.Writing.{over, value, Wide}
-use Rattle.column.proofs.Columns.{length_columns, signed_of_byte}
+use Rattle.row_writer.specs.Writing.{over, Wide}
 use Rattle.row_writer.proofs.Puts.{length_over}
-use Rattle.row_writer.proofs.Widths.{wide_due}
 
 columns_append : (w : ℕ) (xs ys : List ℤ) → columns w (xs ++ ys) ≡ columns w xs ++ columns w ys
 columns_append w [] ys = refl
@@ -104,60 +98,19 @@ write_more w zs i at r out b last low room ea eo wide el =
           ∙ ap (λ x. over x b) (sym (so_far_more w zs i low)),
     )
 
--- a number of a list, as the code has it
-pub numbered : (ns : List Number) (i : ℕ)
-    → i < length ns
-    → (i < length (map value ns)) × (value (get_or ns i (Natural 0)) ≡ get_or (map value ns) i (pos 0))
-numbered ns i low = (omega (arith, length-map ns value), sym (get_or-map value ns i (Natural 0) (pos 0) low))
+-- a cell of a row, as the code has it
+pub cell_at : {X : Type 0} (v : X → ℤ) (cells : List X) (i : ℕ) (x : X)
+    → i < length cells
+    → x ≡ get_or cells i x
+    → (i < length (map v cells)) × (v x ≡ get_or (map v cells) i (pos 0))
+cell_at v cells i x low is = (omega (arith, length-map cells v), ap v is ∙ sym (get_or-map v cells i x (pos 0) low))
 
-pub byte_numbered : (bs : List ℕ) (i : ℕ)
-    → i < length bs
-    → (i < length (map pos bs)) × (pos (get_or bs i 0) ≡ get_or (map pos bs) i (pos 0))
-byte_numbered bs i low = (omega (arith, length-map bs pos), sym (get_or-map pos bs i 0 (pos 0) low))
-
--- a byte takes the four columns that are due
-pub byte_wide : (b : ℕ) → b < 2 ^ 8 → Wide 4 (pos b) 4
-byte_wide b h = wide_due 4 (pos b) (omega arith) (omega (arith, signed_of_byte b h))
-
-module _ (bs : List ℕ) (i at : ℕ) (b : List ℕ) (low : i < length bs) (small : get_or bs i 0 < 2 ^ 8) where
-  byte_here : Wide 4 (get_or (map pos bs) i (pos 0)) 4
-  byte_here =
-      let here = byte_numbered bs i low in
-      subst (λ (z : ℤ). Wide 4 z 4) here.1 (byte_wide (get_or bs i 0) small)
-
-  pub byte_room : length (columns 4 (map pos bs)) ≤ length b → at ≡ length (so_far 4 (map pos bs) i) → at + 4 ≤ length b
-  byte_room room e = room_more 4 (map pos bs) i at 4 b (byte_numbered bs i low).0 room e byte_here
-
-  pub byte_fits : (out : List ℕ)
-      → at + 4 ≤ length out
-      → length (signed_decimal (pos (get_or bs i 0))) ≤ length (take (at + 4 - at) (drop at out))
-  byte_fits out room =
-      let size : at + 4 - at ≡ 4 = omega arith in
-      let part : length (take (at + 4 - at) (drop at out)) ≡ 4 =
-      ap (λ n. length (take n (drop at out))) size
-      ∙ length-take-le 4 (drop at out) (omega (arith, length-drop at out)) in
-      omega (arith, part, signed_of_byte (get_or bs i 0) small)
-
-  pub byte_more : (out last : List ℕ)
-      → length (columns 4 (map pos bs)) ≤ length b
-      → at ≡ length (so_far 4 (map pos bs) i)
-      → out ≡ over (so_far 4 (map pos bs) i) b
-      → last ≡ column (length (take (at + 4 - at) (drop at out))) (pos (get_or bs i 0))
-      → (at + 4 ≡ length (so_far 4 (map pos bs) (i + 1)))
-      × (put_mid at (at + 4 - at) out last ≡ over (so_far 4 (map pos bs) (i + 1)) b)
-  byte_more out last room ea eo el =
-      let here = byte_numbered bs i low in
-      write_more 4 (map pos bs) i at 4 out b last here.0 room ea eo byte_here
-      (el ∙ ap (column (length (take (at + 4 - at) (drop at out)))) here.1)
-
--- how long a B row is
-pub bytes_length : (bs : List ℕ) → ((i : ℕ) → get_or bs i 0 < 2 ^ 8) → length (columns 4 (map pos bs)) ≡ 4 * length bs
-bytes_length bs small =
-    let each : AllByRecursion (λ b. length (signed_decimal (pos b)) ≤ 4) bs =
-    All-from_get_or (λ b. length (signed_decimal (pos b)) ≤ 4) bs 0
-    (λ i h. omega (arith, signed_of_byte (get_or bs i 0) (small i))) in
-    length_columns 4 (map pos bs) (All-map (λ z. length (signed_decimal z) ≤ 4) pos bs each)
-    ∙ ap (λ n. 4 * n) (length-map bs pos)
+-- how long the columns are
+pub length_by_sum : {X : Type 0} (w : ℕ) (v : X → ℤ) (cells : List X)
+    → length (columns w (map v cells)) ≡ sum_by (λ x. length (column w (v x))) cells
+length_by_sum w v cells =
+    is_sum_by (λ xs. length (columns w (map v xs))) (λ x. length (column w (v x))) refl
+    (λ x xs. length-append (column w (v x)) (columns w (map v xs))) cells
 
 -- a letter before the columns, and byte 10 behind them
 

@@ -13,7 +13,7 @@ negative_size (negsuc n) h = omega arith
 
 pub positive_size : (z : ℤ) → lt_z z (pos 0) ≡ false → length (decimal (nat_abs z)) ≡ length (signed_decimal z)
 positive_size (pos n) h = refl
-positive_size (negsuc n) h = let y : ◌≡◌ {A = ℕ} 0 1 = cc in absurd (omega arith)
+positive_size (negsuc n) h = cc
 
 pub wide_due : (w : ℕ) (z : ℤ) → w ≤ 12 → length (signed_decimal z) ≤ w → Wide w z w
 wide_due w z few h = record { long = sym (length_column w z h); few = omega arith; room = h; same = refl }

@@ -1,26 +1,13 @@
-use Rattle.std.proofs.Common.{◌≡◌, length, drop, ap, ◌∙◌, arith}
-use Rattle.column.specs.Columns.{number}
-use Rattle.column.proofs.Reading.{blank_passed, blanks_ended, blanks_only}
+use Rattle.std.proofs.Common.{◌≡◌, eqb, not, length, unwrap_or, ap, ◌∙◌, rules, tests}
+use Rattle.std.specs.List.{position}
+use Rattle.std.proofs.lemmas.Iterator.{YieldsList-from_slice}
+use Rattle.std.proofs.lemmas.Iterator.Search.{position_from_yields_List}
 use Rattle.column.proofs.blanks.Goals as goal
 
-pub returns-then-b-ne32 : goal.returns-then-b-ne32
-returns-then-b-ne32 c =
-    record {
-      within = omega arith;
-      passed = c.loop-i.invariant ∙ blanks_ended c.args.text.now c.loop-i.i (omega arith) c.if-b-ne32.true;
-    }
-
-pub loop-i-preserved : goal.loop-i-preserved
-loop-i-preserved c =
-    c.loop-i.invariant ∙ blank_passed c.args.text.now c.loop-i.i (omega arith) c.if-b-ne32.false
-
-pub returns : goal.returns
-returns c =
-    let end : c.loop-i.i ≡ length c.args.text.now = omega arith in
-    record {
-      within = omega arith;
-      passed =
-          c.loop-i.invariant
-          ∙ blanks_only c.args.text.now c.loop-i.i (omega arith)
-          ∙ ap (λ i. number (drop i c.args.text.now)) end;
-    }
+pub returns-clause-start : goal.returns-clause-start
+returns-clause-start c =
+    let first : c.position.result ≡ position (λ b. not (eqb b 32)) c.args.text.now =
+    position_from_yields_List (λ b. not (eqb b 32)) _ _ c.position.result c.position.ensures.ran
+    (YieldsList-from_slice c.args.text.now cc)
+    (λ x b q k. search (rules, tests)) in
+    c.unwrap_or.ensures ∙ ap (λ o. unwrap_or o (length c.args.text.now)) first
