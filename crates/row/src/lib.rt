@@ -165,7 +165,7 @@ fn read_section(text: &[u8]) -> Result<Row<'_>, Cause>
     })
 }
 
-// How many bytes a B row has.
+// How many bytes a B row has. A chain would be no plainer: each step may end the row, refuse it or go on.
 fn byte_count(text: &[u8]) -> Result<u16, Cause>
     ensures { result ≡ counted (row_bytes text.now) }
 {

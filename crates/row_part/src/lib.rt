@@ -30,7 +30,9 @@ pub fn byte_at(text: &[u8], at: usize) -> Option<u8>
     text.get(at).copied()
 }
 
-// The number in the columns from `at` on.
+// The number in the columns from `at` on. Where this is inlined, the width is a constant, and the loops over the columns
+// are unrolled.
+#[inline(always)]
 pub fn column_at(width: usize, text: &[u8], at: usize) -> Result<i64, Cause>
     ensures { result ≡ column_at width text.now at }
 {
@@ -40,8 +42,7 @@ pub fn column_at(width: usize, text: &[u8], at: usize) -> Result<i64, Cause>
     }
 }
 
-// A natural number of 32 bits, not above the limit. Where it is inlined, the width is a constant, and the columns' loops
-// are unrolled: a table of bytes is then read in two thirds of the time.
+// A natural number of 32 bits, not above the limit. It is inlined for the same reason.
 #[inline(always)]
 #[tactic(auto, unfolding(crate::specs::Parts::natural_at))]
 pub fn word_at(width: usize, text: &[u8], at: usize, limit: u32) -> Result<u32, Cause>
@@ -54,7 +55,8 @@ pub fn word_at(width: usize, text: &[u8], at: usize, limit: u32) -> Result<u32, 
     }
 }
 
-// A natural number of 16 bits, not above the limit.
+// A natural number of 16 bits, not above the limit. It is inlined for the same reason.
+#[inline(always)]
 pub fn short_at(width: usize, text: &[u8], at: usize, limit: u16) -> Result<u16, Cause>
     ensures { result ≡ natural_at width text.now at limit }
 {

@@ -136,7 +136,8 @@ fn columns_length<T: Cell>(cells: &[T]) -> usize
     cells.iter().map(|cell| cell.width()).sum()
 }
 
-// Writes the columns of some numbers over the front of the buffer, and answers where they end.
+// Writes the columns of some numbers over the front of the buffer, and answers where they end. Each part of the buffer
+// starts where the last column ended, which no iterator over parts gives.
 fn write_columns<T: Cell>(cells: &[T], out: &mut [u8]) -> usize
     requires { length (columns T.due (map T.integer cells.now)) ≤ length out.old }
     ensures end { result ≡ length (columns T.due (map T.integer cells.now)) }
