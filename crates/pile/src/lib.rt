@@ -122,7 +122,8 @@ impl<G: SectionGraph> Pile<G> {
             .place(self.below.count(), is_present(&self.below, s), s)
     }
 
-    // Whether calls are refused, and why.
+    // Whether calls are refused, and why. A check, and what is done where it passes, have contracts of their own, so that a call that makes a
+    // wrong one of either is refused at the call.
 
     fn check_bind(&self, name: u16, section: u16) -> Result<(), Fault>
         ensures { Checked (G.SectionGraph.graph self.now.below) self.now.table (Bind name section) result }
