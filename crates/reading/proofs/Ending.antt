@@ -1,17 +1,19 @@
 -- The rules one after another.
-use Rattle.std.proofs.Common.{◌≡◌, ℕ, ◌+◌, ◌*◌, ◌≤◌, Bool, false, List, [], ◌++◌, map, length, take, drop, replicate, Some, None, Ok, Err, Option, Result, sym, refl, subst, ap, ◌∙◌, arith}
+use Rattle.std.proofs.Common.{◌≡◌, ℕ, ◌+◌, ◌*◌, ◌≤◌, Bool, true, false, ◌&&◌, eqb, leb, List, [], ◌++◌, map, length, take, drop, replicate, Some, None, Ok, Err, Option, Result, sym, refl, subst, ap, ◌∙◌, arith}
 use Rattle.std.specs.List.{range_with_len}
 use Rattle.std.proofs.lemmas.List.{length-replicate, get_or-replicate}
 use Rattle.std.proofs.lemmas.List.FromFn.{fill_by_all}
+use Rattle.std.proofs.lemmas.Bool.{and_parts, leb-true}
 use Rattle.fault.specs.declared.Fault.{Fault}
+use Rattle.field.specs.Fields.{half, long}
 use Rattle.checklist.specs.Checks.{Check, first_fault, each, answer}
-use Rattle.checklist.proofs.Checks.{append_none, append_some}
-use Rattle.elf.specs.Layout.{sections}
+use Rattle.checklist.proofs.Checks.{append_none, append_some, accepts}
+use Rattle.elf.specs.Layout.{sections, place}
 use Rattle.rules.specs.declared.Notes.{Notes}
-use Rattle.rules.specs.Known.{Tabled}
+use Rattle.rules.specs.Known.{Headed, Tabled}
 use Rattle.rules.specs.Ending.{Ends}
 use Rattle.rules.specs.Notes.{listed_in, marks}
-use Rattle.rules.specs.Rules.{head_rule, extent_rule, content_rule, only_rule, table_rule, relocation_rule, table, symbols, symbols_of}
+use Rattle.rules.specs.Rules.{head_rule, identified, extent_rule, content_rule, only_rule, table_rule, relocation_rule, table, symbols, symbols_of}
 use Rattle.rules.specs.Verdict.{checks, from_extents, from_contents, from_only_table, from_table, from_relocations, from_only_listing}
 use Rattle.rules.specs.Listing.{Item, significance_kind, significance, listing, listing_of, listing_rule, items, item_checks}
 use Rattle.reading.proofs.Firsts.{only_is, extent_is}
@@ -51,6 +53,23 @@ module _ (b : List ℕ) (r : Result Notes Fault) (extents : first_fault (each (e
           module _ (single : first_fault (each (only_rule significance_kind b) (sections b)) ≡ None) where
             pub after_only_listing : Ends b (listing_rule b) r → Ends b (from_extents b) r
             after_only_listing w = after_relocations (ends_on b (each (only_rule significance_kind b) (sections b)) (listing_rule b) r single w)
+
+-- the header of an object that passed
+pub headed : (b : List ℕ) → first_fault (head_rule b) ≡ None → Headed b (long b 40) (sections b)
+headed b e =
+    let a = accepts (head_rule b) e
+    in let a0 = and_parts (leb 64 (length b)) _ a
+    in let a1 = and_parts (identified b) _ a0.1
+    in let a2 = and_parts (eqb (half b 16) 1) _ a1.1
+    in let a3 = and_parts (eqb (half b 58) 64) _ a2.1
+    in let a4 = and_parts (leb 1 (sections b) && leb (sections b) 1024) _ a3.1
+    in let a5 = and_parts (leb (place b (sections b)) (length b)) true a4.1
+    in record {
+      first_right = refl;
+      count_right = refl;
+      ends = leb-true (place b (sections b)) (length b) a5.0;
+      few = leb-true (sections b) 1024 (and_parts (leb 1 (sections b)) (leb (sections b) 1024) a4.0).1;
+    }
 
 -- the symbols of an object stand in it
 pub tabled : (b : List ℕ) → first_fault (each (extent_rule b) (sections b)) ≡ None → Tabled b (symbols b)
