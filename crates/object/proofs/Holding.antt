@@ -1,5 +1,5 @@
 -- What a reader holds.
-use Rattle.std.proofs.Common.{◌≡◌, ℕ, true, false, eqb, List, [], length, replicate, None, sym, refl, ap, subst, arith}
+use Rattle.std.proofs.Common.{◌≡◌, ℕ, true, false, eqb, List, [], length, replicate, is_some, None, Option, refl, ap, ◌∙◌}
 use Rattle.std.proofs.lemmas.Bool.{or_right}
 use Rattle.std.proofs.lemmas.List.{length-replicate, get_or-replicate}
 use Rattle.std.proofs.lemmas.List.FromFn.{fill_by_all}
@@ -7,7 +7,10 @@ use Rattle.field.specs.Fields.{half}
 use Rattle.checklist.specs.Checks.{first_fault}
 use Rattle.checklist.proofs.Checks.{accepts}
 use Rattle.rules.specs.declared.Notes.{Notes}
-use Rattle.rules.specs.Notes.{Noted, part_note, parts}
+use Rattle.rules.specs.declared.Symbols.{Symbols}
+use Rattle.rules.specs.Notes.{Noted, part_note, parts, marks, roots}
+use Rattle.rules.specs.Rules.{symbols}
+use Rattle.rules.specs.Listing.{significance}
 use Rattle.rules.specs.Verdict.{checks, accepted}
 use Rattle.reading.proofs.Ending.{unlisted}
 use Rattle.model.specs.Graph.{empty}
@@ -19,35 +22,36 @@ read_held b e = or_right (eqb (length b) 0) (accepted b) (accepts (checks b) e)
 
 -- of no file
 
-abbrev pub nothing : Notes
-nothing =
-    record {
-      symbols = record { from = 0; count = 0 };
-      parts = replicate 1024 65535;
-      significant = false;
-      listed = replicate 1024 false;
-      roots = replicate 1024 0;
-      count = 0;
-    }
-
-no_parts : replicate 1024 65535 ≡ parts []
+no_parts : replicate 1024 None ≡ parts []
 unfolding half
-no_parts = fill_by_all (part_note [] 0) (replicate 1024 65535) 1024 0 (length-replicate {A = ℕ} 1024 65535) (λ k h. get_or-replicate {A = ℕ} 1024 k 65535 0 h)
+no_parts = fill_by_all (part_note [] 0) (replicate 1024 None) 1024 None (length-replicate {A = Option ℕ} 1024 None) (λ k h. get_or-replicate {A = Option ℕ} 1024 k None None h)
 
-noted_nothing : Noted [] nothing
+no_symbols : ◌≡◌ {A = Symbols} (record { from = 0; count = 0 }) (symbols [])
 unfolding half
-noted_nothing =
-    record {
-      symbols_right = refl;
-      parts_right = no_parts;
-      listing_right = refl;
-      marks_right = (unlisted [] refl).1;
-      few_roots = omega arith;
-      roots_right = refl;
-    }
+no_symbols = refl
 
-pub none_noted : (b : List ℕ) → b ≡ [] → Noted b nothing
-none_noted b e = subst (λ (x : List ℕ). Noted x nothing) (sym e) noted_nothing
+unsigned : false ≡ is_some (significance [])
+unfolding half
+unsigned = refl
+
+no_marks : replicate 1024 false ≡ marks []
+unfolding half
+no_marks = (unlisted [] refl).1
+
+no_roots : [] ≡ roots []
+unfolding half
+no_roots = refl
+
+pub none_noted : (b : List ℕ) (x : Notes) → b ≡ [] → x.symbols ≡ record { from = 0; count = 0 } → x.parts ≡ replicate 1024 None → x.significant ≡ false
+    → x.listed ≡ replicate 1024 false → x.roots.items ≡ [] → Noted b x
+none_noted b x e s p g m r =
+    rw e (record {
+      symbols_right = s ∙ no_symbols;
+      parts_right = p ∙ no_parts;
+      listing_right = g ∙ unsigned;
+      marks_right = m ∙ no_marks;
+      roots_right = r ∙ no_roots;
+    })
 
 pub none_held : (b : List ℕ) → b ≡ [] → held b ≡ true
 none_held b e = ap held e

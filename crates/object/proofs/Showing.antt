@@ -1,6 +1,6 @@
 -- The answers to the questions, from what is read and noted.
-use Rattle.std.proofs.Common.{◌≡◌, ℕ, ◌+◌, ◌*◌, ◌/◌, ◌<◌, ◌≤◌, max, Bool, true, false, cond, not, ◌&&◌, ◌==◌, ltb, leb, ◌⊎◌, List, map, length, get_or, take, drop, replicate, is_some, Some, None, Ok, Err, Option, sym, refl, ap, ◌∙◌, inl, inr, arith}
-use Rattle.std.specs.List.{slice_get}
+use Rattle.std.proofs.Common.{◌≡◌, ℕ, ◌+◌, ◌*◌, ◌/◌, ◌<◌, ◌≤◌, max, Bool, true, false, cond, not, ◌&&◌, ◌==◌, ltb, leb, ◌⊎◌, List, map, length, get_or, take, drop, replicate, is_some, Some, None, Ok, Err, Option, sym, refl, ap, ◌∙◌, subst, inl, inr, arith}
+use Rattle.std.specs.List.{slice_get, range_with_len}
 use Rattle.std.specs.Result.{result_ok, result_unwrap_or}
 use Rattle.std.proofs.lemmas.Bool.{cases_lt, eq-eqb, ne_eqb, eqb-true, eqb-false, ltb-true, lt-ltb, le-leb, leb-false}
 use Rattle.std.proofs.lemmas.List.{get_or-replicate, get_or-map, get_or-take, get_or-drop, length-replicate, length-take, length-drop}
@@ -13,7 +13,7 @@ use Rattle.elf.specs.declared.Header.{Header}
 use Rattle.elf.specs.Layout.{sections, section, present, plain, entry_at}
 use Rattle.rules.specs.Rules.{part, symbol}
 use Rattle.rules.specs.Listing.{significance, listed}
-use Rattle.rules.specs.Notes.{part_note, or_none, listed_in, Noted}
+use Rattle.rules.specs.Notes.{part_note, listed_in, Noted}
 use Rattle.rules.specs.Listing.{listing}
 use Rattle.rules.specs.declared.Notes.{Notes}
 use Rattle.object.specs.Meaning.{flags_of, alignment_of, low, bytes_of, relocation_at, relocations_in, setting_of, body, meaning}
@@ -22,7 +22,7 @@ use Rattle.field.specs.Fields.{half, within, short}
 use Rattle.elf.specs.Layout.{place}
 use Rattle.rules.specs.Rules.{relocates}
 use Rattle.reading.proofs.Firsts.{first_where_is}
-use Rattle.object.specs.Facts.{Facts, held_facts, held_few, held_short, header_ends, Sound, sound, bytes_length, Whole, entered, tables, value_within, inside}
+use Rattle.object.specs.Facts.{Facts, held_facts, held_few, held_short, header_ends, Sound, sound, bytes_length, Whole, whole, entered, tables, value_within, inside}
 use Rattle.object.specs.Held.{Ready}
 use Rattle.object.specs.Lawful.{section_at, section_past, range_low, range_high}
 
@@ -61,55 +61,42 @@ shown_none b s e = go (cases_lt s (sections b)) (present (section b s)) refl
         in let f : None ≡ Some (section b s) = e ∙ (ap (λ (t : Bool). cond (t && present (section b s)) (Some (section b s)) None) lt ∙ ap (λ (t : Bool). cond t (Some (section b s)) None) q)
         in let z : ◌≡◌ {A = ℕ} 0 1 = cc in absurd (omega arith)
 
--- the part that is noted
-pub part_noted : (b : List ℕ) (x : Notes) (s : ℕ) → Noted b x → s < 1024 → get_or x.parts s 0 ≡ or_none (part b s (sections b))
-part_noted b x s w l = ap (λ (xs : List ℕ). get_or xs s 0) w.parts_right ∙ get_or-map-range_with_len (part_note b (sections b)) 0 1024 s s 0 l (omega arith)
+-- what is noted
+pub part_noted : (b : List ℕ) (x : Notes) (s : ℕ) → Noted b x → s < 1024 → get_or x.parts s None ≡ part b s (sections b)
+part_noted b x s w l = ap (λ (xs : List (Option ℕ)). get_or xs s None) w.parts_right ∙ get_or-map-range_with_len (part_note b (sections b)) 0 1024 s s None l (omega arith)
 
 pub listed_noted : (b : List ℕ) (x : Notes) (s : ℕ) → Noted b x → s < 1024 → get_or x.listed s false ≡ listed b s
 listed_noted b x s w l = ap (λ (xs : List Bool). get_or xs s false) w.marks_right ∙ get_or-map-range_with_len (listed_in b (listing b)) 0 1024 s s false l (omega arith)
 
 -- byte i of a section
-pub byte_in : (b : List ℕ) (s i : ℕ) (h : Header) → Seen b s h → byte_of (meaning b) s i ≡ slice_get (bytes_of b h) i
+byte_in : (b : List ℕ) (s i : ℕ) (h : Header) → Seen b s h → byte_of (meaning b) s i ≡ slice_get (bytes_of b h) i
 byte_in b s i h w = ap (λ (o : Option Body). told_byte o i) w.body ∙ ap (λ (x : Header). slice_get (bytes_of b x) i) (sym w.header)
 
-pub byte_some : (b : List ℕ) (h : Header) (i : ℕ) → Sound b h → i < h.size → (h.kind ≡ 8 → ⊥) → slice_get (bytes_of b h) i ≡ Some (low (get_or b (h.offset + i) 0))
-byte_some b h i w l k =
-    let len = bytes_length b h w
+pub byte_some : (b : List ℕ) (s i : ℕ) (h : Header) → Seen b s h → i < h.size → (h.kind ≡ 8 → ⊥) → byte_of (meaning b) s i ≡ Some (low (get_or b (h.offset + i) 0))
+byte_some b s i h w l k =
+    let len = bytes_length b h w.sound
     in let here : i < length (bytes_of b h) = omega arith
-    in slice_get-get_or (bytes_of b h) i 0 here
+    in byte_in b s i h w
+    ∙ (slice_get-get_or (bytes_of b h) i 0 here
     ∙ ap Some
     (ap (λ (t : Bool). get_or (cond t (replicate h.size 0) (map low (take h.size (drop h.offset b)))) i 0) (ne_eqb h.kind 8 k)
-    ∙ (get_or-map low (take h.size (drop h.offset b)) i 0 0 (shorter (w.ends k))
-    ∙ ap low (get_or-take h.size (drop h.offset b) i 0 l ∙ get_or-drop h.offset b i 0)))
+    ∙ (get_or-map low (take h.size (drop h.offset b)) i 0 0 (shorter (w.sound.ends k))
+    ∙ ap low (get_or-take h.size (drop h.offset b) i 0 l ∙ get_or-drop h.offset b i 0))))
   where
     shorter : h.offset + h.size ≤ length b → i < length (take h.size (drop h.offset b))
     shorter e = simp (length-take, length-drop) (omega arith)
 
-pub byte_zero : (b : List ℕ) (h : Header) (i : ℕ) → i < h.size → h.kind ≡ 8 → slice_get (bytes_of b h) i ≡ Some 0
-byte_zero b h i l k =
-    ap (λ (t : Bool). slice_get (cond t (replicate h.size 0) (map low (take h.size (drop h.offset b)))) i) (eq-eqb h.kind 8 k)
-    ∙ (slice_get-get_or (replicate h.size 0) i 0 (omega (arith, length-replicate {A = ℕ} h.size 0)) ∙ ap Some (get_or-replicate {A = ℕ} h.size i 0 0 l))
+pub byte_zero : (b : List ℕ) (s i : ℕ) (h : Header) → Seen b s h → i < h.size → h.kind ≡ 8 → byte_of (meaning b) s i ≡ Some 0
+byte_zero b s i h w l k =
+    byte_in b s i h w
+    ∙ (ap (λ (t : Bool). slice_get (cond t (replicate h.size 0) (map low (take h.size (drop h.offset b)))) i) (eq-eqb h.kind 8 k)
+    ∙ (slice_get-get_or (replicate h.size 0) i 0 (omega (arith, length-replicate {A = ℕ} h.size 0)) ∙ ap Some (get_or-replicate {A = ℕ} h.size i 0 0 l)))
 
-pub byte_past : (b : List ℕ) (h : Header) (i : ℕ) → Sound b h → h.size ≤ i → slice_get (bytes_of b h) i ≡ None
-byte_past b h i w l = slice_get_past (bytes_of b h) i (omega (arith, bytes_length b h w))
+pub byte_past : (b : List ℕ) (s i : ℕ) (h : Header) → Seen b s h → h.size ≤ i → byte_of (meaning b) s i ≡ None
+byte_past b s i h w l = byte_in b s i h w ∙ slice_get_past (bytes_of b h) i (omega (arith, bytes_length b h w.sound))
 
--- relocation j of a section with relocations in section r, whose header is h
-pub relocation_in : (b : List ℕ) (s r j : ℕ) (h : Header) → Seen b s h → part b s (sections b) ≡ Some r
-    → relocation_of (meaning b) s j ≡ slice_get (relocations_in b (Some r)) j
-relocation_in b s r j h w e = ap (λ (o : Option Body). told_relocation o j) w.body ∙ ap (λ (o : Option ℕ). slice_get (relocations_in b o) j) e
-
-pub relocation_none : (b : List ℕ) (s j : ℕ) (h : Header) → Seen b s h → part b s (sections b) ≡ None → relocation_of (meaning b) s j ≡ None
-relocation_none b s j h w e = ap (λ (o : Option Body). told_relocation o j) w.body ∙ ap (λ (o : Option ℕ). slice_get (relocations_in b o) j) e
-
-pub relocation_some : (b : List ℕ) (r j : ℕ) → j < (section b r).size / 24 → slice_get (relocations_in b (Some r)) j ≡ Some (relocation_at b (section b r).offset j)
-relocation_some b r j l =
-    let len = length-map-range_with_len (relocation_at b (section b r).offset) 0 ((section b r).size / 24)
-    in slice_get-get_or (relocations_in b (Some r)) j (relocation_at b (section b r).offset j) (omega arith)
-    ∙ ap Some (get_or-map-range_with_len (relocation_at b (section b r).offset) 0 ((section b r).size / 24) j j (relocation_at b (section b r).offset j) l (omega arith))
-
-pub relocation_past : (b : List ℕ) (r j : ℕ) → (section b r).size / 24 ≤ j → slice_get (relocations_in b (Some r)) j ≡ None
-relocation_past b r j l =
-    slice_get_past (relocations_in b (Some r)) j (omega (arith, length-map-range_with_len (relocation_at b (section b r).offset) 0 ((section b r).size / 24)))
+pub byte_none : (b : List ℕ) (s i : ℕ) → None ≡ shown b s → byte_of (meaning b) s i ≡ None
+byte_none b s i e = ap (λ (o : Option Body). told_byte o i) (shown_none b s e)
 
 -- what ends within the bytes is read
 pub part_read : {A : Type 0} (b : List ℕ) (p size : ℕ) (y : A) → p + size ≤ length b → result_ok (within b p size y) ≡ Some y
@@ -127,38 +114,68 @@ count_read b h = go (leb 62 (length b)) refl
     go true q = refl
     go false q = held_short b h (leb-false 62 (length b) q)
 
--- what a note of a part tells
-pub no_part : (b : List ℕ) (x : Notes) (s : ℕ) → held b ≡ true → Noted b x → s < sections b → get_or x.parts s 0 ≡ 65535 → part b s (sections b) ≡ None
-no_part b x s h w l e = go (part b s (sections b)) refl
+-- the section with the relocations is one of the sections
+pub part_below : (b : List ℕ) (s r : ℕ) → part b s (sections b) ≡ Some r → r < sections b
+part_below b s r e = (first_where_is (relocates b s) (sections b) r e).0
+
+-- the section with the relocations of section s, by its header
+pub record PartSeen (b : List ℕ) (s : ℕ) (p : Header) : Type 0 where
+  pub number : ℕ
+  pub is_part : part b s (sections b) ≡ Some number
+  pub header : p ≡ section b number
+  pub few : p.size / 24 ≤ 65535
+  pub ends : p.offset + p.size ≤ length b
+  pub whole : Whole b s number
+
+pub part_seen : (b : List ℕ) (s : ℕ) (p : Header) → held b ≡ true → s < sections b → Some p ≡ header_of b (part b s (sections b)) → PartSeen b s p
+part_seen b s p h l e = go (part b s (sections b)) refl e
   where
-    go : (o : Option ℕ) → part b s (sections b) ≡ o → part b s (sections b) ≡ None
-    go None q = q
-    go (Some r) q =
-        let few = held_few b h
-        in let at = first_where_is (relocates b s) (sections b) r q
-        in let same : 65535 ≡ r = sym e ∙ (part_noted b x s w (omega arith) ∙ ap or_none q)
-        in absurd (omega (arith, at.0))
+    go : (o : Option ℕ) → part b s (sections b) ≡ o → Some p ≡ header_of b o → PartSeen b s p
+    go None q e' = let z : ◌≡◌ {A = ℕ} 0 1 = cc in absurd (omega arith)
+    go (Some r) q e' =
+        let w = whole b s r (held_facts b s h l) q
+        in let same : p ≡ section b r = cc
+        in record { number = r; is_part = q; header = same; few = rw same w.few; ends = rw same w.ends; whole = w }
 
-pub some_part : (b : List ℕ) (x : Notes) (s : ℕ) → held b ≡ true → Noted b x → s < sections b → (get_or x.parts s 0 ≡ 65535 → ⊥)
-    → (part b s (sections b) ≡ Some (get_or x.parts s 0)) × (get_or x.parts s 0 < sections b)
-some_part b x s h w l e = go (part b s (sections b)) refl
-  where
-    go : (o : Option ℕ) → part b s (sections b) ≡ o → (part b s (sections b) ≡ Some (get_or x.parts s 0)) × (get_or x.parts s 0 < sections b)
-    go None q = let few = held_few b h in absurd (e (part_noted b x s w (omega arith) ∙ ap or_none q))
-    go (Some r) q =
-        let few = held_few b h
-        in let at = first_where_is (relocates b s) (sections b) r q
-        in let same : get_or x.parts s 0 ≡ r = part_noted b x s w (omega arith) ∙ ap or_none q
-        in (q ∙ ap Some (sym same), rw same at.0)
-
--- the section with the relocations, from its header
-pub part_is : (b : List ℕ) (s : ℕ) (h : Header) (o : Option ℕ) → Some h ≡ header_of b o → (r : ℕ) × (o ≡ Some r) × (h ≡ section b r)
-part_is b s h None e = let z : ◌≡◌ {A = ℕ} 0 1 = cc in absurd (omega arith)
-part_is b s h (Some r) e = (r, refl, cc)
-
-pub part_gone : (b : List ℕ) (o : Option ℕ) → None ≡ header_of b o → o ≡ None
+part_gone : (b : List ℕ) (o : Option ℕ) → None ≡ header_of b o → o ≡ None
 part_gone b None e = refl
 part_gone b (Some r) e = let z : ◌≡◌ {A = ℕ} 0 1 = cc in absurd (omega arith)
+
+-- how many relocations a section has
+pub count_seen : (b : List ℕ) (s : ℕ) (p : Header) → PartSeen b s p → p.size / 24 ≡ length (relocations_in b (part b s (sections b)))
+count_seen b s p q =
+    ap (λ (x : Header). x.size / 24) q.header
+    ∙ (sym (length-map-range_with_len (relocation_at b (section b q.number).offset) 0 ((section b q.number).size / 24))
+    ∙ ap (λ (o : Option ℕ). length (relocations_in b o)) (sym q.is_part))
+
+-- relocation j of a section
+relocation_in : (b : List ℕ) (s j : ℕ) (h p : Header) → Seen b s h → PartSeen b s p
+    → relocation_of (meaning b) s j ≡ slice_get (map (relocation_at b p.offset) (range_with_len 0 (p.size / 24))) j
+relocation_in b s j h p w q =
+    ap (λ (o : Option Body). told_relocation o j) w.body
+    ∙ (ap (λ (o : Option ℕ). slice_get (relocations_in b o) j) q.is_part
+    ∙ ap (λ (x : Header). slice_get (map (relocation_at b x.offset) (range_with_len 0 (x.size / 24))) j) (sym q.header))
+
+pub relocation_some : (b : List ℕ) (s j : ℕ) (h p : Header) → Seen b s h → PartSeen b s p → j < p.size / 24
+    → relocation_of (meaning b) s j ≡ Some (relocation_at b p.offset j)
+relocation_some b s j h p w q l =
+    let len = length-map-range_with_len (relocation_at b p.offset) 0 (p.size / 24)
+    in relocation_in b s j h p w q
+    ∙ (slice_get-get_or (map (relocation_at b p.offset) (range_with_len 0 (p.size / 24))) j (relocation_at b p.offset j) (omega arith)
+    ∙ ap Some (get_or-map-range_with_len (relocation_at b p.offset) 0 (p.size / 24) j j (relocation_at b p.offset j) l (omega arith)))
+
+pub relocation_past : (b : List ℕ) (s j : ℕ) (h p : Header) → Seen b s h → PartSeen b s p → p.size / 24 ≤ j → relocation_of (meaning b) s j ≡ None
+relocation_past b s j h p w q l =
+    relocation_in b s j h p w q
+    ∙ slice_get_past (map (relocation_at b p.offset) (range_with_len 0 (p.size / 24))) j (omega (arith, length-map-range_with_len (relocation_at b p.offset) 0 (p.size / 24)))
+
+pub relocation_none : (b : List ℕ) (s j : ℕ) (h : Header) → Seen b s h → None ≡ header_of b (part b s (sections b)) → relocation_of (meaning b) s j ≡ None
+relocation_none b s j h w e =
+    ap (λ (o : Option Body). told_relocation o j) w.body
+    ∙ ap (λ (o : Option ℕ). slice_get (relocations_in b o) j) (part_gone b (part b s (sections b)) e)
+
+pub relocation_hidden : (b : List ℕ) (s j : ℕ) → None ≡ shown b s → relocation_of (meaning b) s j ≡ None
+relocation_hidden b s j e = ap (λ (o : Option Body). told_relocation o j) (shown_none b s e)
 
 -- the alignment as the larger of it and 1
 pub alignment_is : (h : Header) → max h.alignment 1 ≡ alignment_of h
@@ -188,22 +205,27 @@ setting_is b x s h r w l e q =
     ∙ ap (λ (y : Bool). cond (plain (section b s) && (is_some (significance b) && not y)) Foldable Pinned) (listed_noted b x s w l)))
 
 -- each entry with a relocation can be told as one
-pub ready : (b : List ℕ) (s r j : ℕ) → Facts b → s < sections b → Whole b s r → j < (section b r).size / 24 → Ready b ((section b r).offset + 24 * j)
-ready b s r j f l w k =
-    let e = entered b s r j w k
-    in let t = tables b f
-    in let z = sound b s f l w.here
-    in record {
-      ends = omega (arith, w.ends);
-      symbol_ends = omega (arith, e.symbol_below, t.ends);
-      fits = record {
-        offset = omega (arith, e.offset, z.size);
-        symbol = omega (arith, e.symbol_below, t.few);
-        low = range_low (entry_at b ((section b r).offset + 24 * j)).addend e.range;
-        high = range_high (entry_at b ((section b r).offset + 24 * j)).addend e.range;
-        value = λ o.
-            let at = inside b (symbol b (entry_at b ((section b r).offset + 24 * j)).symbol) e.reaches o
-            in let v = value_within b (entry_at b ((section b r).offset + 24 * j)).symbol t e.symbol_below o at.1
-            in omega (arith, v, (sound b (symbol b (entry_at b ((section b r).offset + 24 * j)).symbol).section f at.0 at.1).size);
-      };
-    }
+pub ready : (b : List ℕ) (s j : ℕ) (p : Header) → held b ≡ true → s < sections b → PartSeen b s p → j < p.size / 24 → Ready b (p.offset + 24 * j)
+ready b s j p h l q k =
+    let f = held_facts b s h l
+    in subst (λ (x : Header). j < x.size / 24 → Ready b (x.offset + 24 * j)) (sym q.header) (at_part f q.number q.whole) k
+  where
+    at_part : Facts b → (r : ℕ) → Whole b s r → j < (section b r).size / 24 → Ready b ((section b r).offset + 24 * j)
+    at_part f r w m =
+        let e = entered b s r j w m
+        in let t = tables b f
+        in let z = sound b s f l w.here
+        in record {
+          ends = omega (arith, w.ends);
+          symbol_ends = omega (arith, e.symbol_below, t.ends);
+          fits = record {
+            offset = omega (arith, e.offset, z.size);
+            symbol = omega (arith, e.symbol_below, t.few);
+            low = range_low (entry_at b ((section b r).offset + 24 * j)).addend e.range;
+            high = range_high (entry_at b ((section b r).offset + 24 * j)).addend e.range;
+            value = λ o.
+                let at = inside b (symbol b (entry_at b ((section b r).offset + 24 * j)).symbol) e.reaches o
+                in let v = value_within b (entry_at b ((section b r).offset + 24 * j)).symbol t e.symbol_below o at.1
+                in omega (arith, v, (sound b (symbol b (entry_at b ((section b r).offset + 24 * j)).symbol).section f at.0 at.1).size);
+          };
+        }

@@ -3,29 +3,27 @@ use Rattle.std.specs.Prelude.{◌≡◌, ℕ, ◌+◌, ◌*◌, ◌/◌, ◌%◌
 use Rattle.std.proofs.Common.{arith, sym, ap, subst, ◌∙◌, inl, inr}
 use Rattle.std.proofs.lemmas.Bool.{or_cases, eqb-true, and_parts, leb-true, ltb-true, not-true, eqb-false, not_from_false}
 use Rattle.std.proofs.lemmas.List.{nil_from_length, length-replicate, length-map, length-take, length-drop}
-use Rattle.field.specs.Fields.{half, long}
+use Rattle.field.specs.Fields.{half}
 use Rattle.checklist.specs.Checks.{Check, first_fault, all_hold, each, where_holds}
 use Rattle.checklist.proofs.Checks.{hold_left, hold_right, hold_each, passes}
 use Rattle.elf.specs.declared.Header.{Header}
 use Rattle.elf.specs.declared.Symbol.{Symbol}
 use Rattle.elf.specs.declared.Entry.{Entry}
 use Rattle.elf.specs.Layout.{sections, place, section, present, apart, has, outside, aligned, entry_at}
-use Rattle.rules.specs.declared.Pass.TheVariants.{Extents, Contents}
 use Rattle.rules.specs.declared.Part.{Part}
-use Rattle.rules.specs.Known.{Headed}
-use Rattle.rules.specs.Rules.{head_rule, pass_rule, only_rule, table_checks, table_rule, table_rule_of, table, symbols, symbols_of, symbol, symbol_rule, valued, relocation_rule, part_checks, told_part, entry_rules, entry_rule, reached, in_range, part, relocates, relocating}
+use Rattle.rules.specs.Rules.{head_rule, identified, extent_rule, content_rule, only_rule, table_checks, table_rule, table_rule_of, table, symbols, symbols_of, symbol, symbol_rule, valued, relocation_rule, part_checks, told_part, entry_rules, entry_rule, reached, in_range, part, relocates, relocating}
 use Rattle.rules.specs.Verdict.{accepted, from_extents, from_contents, from_only_table, from_table, from_relocations, from_only_listing}
 use Rattle.reading.proofs.Firsts.{first_where_is, only_is, extent_is}
 use Rattle.reading.proofs.Parting.{passed}
-use Rattle.reading.proofs.Ending.{headed}
 use Rattle.object.specs.Meaning.{bytes_of, low}
 use Rattle.object.specs.Held.{held}
 
 pub record Facts (b : List ℕ) : Type 0 where
-  pub known : Headed b (long b 40) (sections b)
   pub sized : 64 ≤ length b
-  pub extents : first_fault (each (pass_rule Extents b) (sections b)) ≡ None
-  pub contents : all_hold (each (pass_rule Contents b) (sections b)) ≡ true
+  pub few : sections b ≤ 1024
+  pub headers : place b (sections b) ≤ length b
+  pub extents : first_fault (each (extent_rule b) (sections b)) ≡ None
+  pub contents : all_hold (each (content_rule b) (sections b)) ≡ true
   pub tables : all_hold (table_rule b) ≡ true
   pub relocations : all_hold (each (relocation_rule b) (sections b)) ≡ true
 
@@ -34,15 +32,22 @@ facts b e =
     let n = sections b
     in let head = hold_left (head_rule b) (from_extents b) e
     in let r0 = hold_right (head_rule b) (from_extents b) e
-    in let r1 = hold_right (each (pass_rule Extents b) n) (from_contents b) r0
-    in let r2 = hold_right (each (pass_rule Contents b) n) (from_only_table b) r1
+    in let r1 = hold_right (each (extent_rule b) n) (from_contents b) r0
+    in let r2 = hold_right (each (content_rule b) n) (from_only_table b) r1
     in let r3 = hold_right (each (only_rule 2 b) n) (from_table b) r2
     in let r4 = hold_right (table_rule b) (from_relocations b) r3
+    in let h0 = and_parts (nat_le 64 (length b)) _ head
+    in let h1 = and_parts (identified b) _ h0.1
+    in let h2 = and_parts (half b 16 == 1) _ h1.1
+    in let h3 = and_parts (half b 58 == 64) _ h2.1
+    in let h4 = and_parts (nat_le 1 (sections b) && nat_le (sections b) 1024) _ h3.1
+    in let h5 = and_parts (nat_le (place b (sections b)) (length b)) true h4.1
     in record {
-      known = headed b (passes (head_rule b) head);
-      sized = leb-true 64 (length b) (and_parts (nat_le 64 (length b)) _ head).0;
-      extents = passes (each (pass_rule Extents b) n) (hold_left (each (pass_rule Extents b) n) (from_contents b) r0);
-      contents = hold_left (each (pass_rule Contents b) n) (from_only_table b) r1;
+      sized = leb-true 64 (length b) h0.0;
+      few = leb-true (sections b) 1024 (and_parts (nat_le 1 (sections b)) (nat_le (sections b) 1024) h4.0).1;
+      headers = leb-true (place b (sections b)) (length b) h5.0;
+      extents = passes (each (extent_rule b) n) (hold_left (each (extent_rule b) n) (from_contents b) r0);
+      contents = hold_left (each (content_rule b) n) (from_only_table b) r1;
       tables = hold_left (table_rule b) (from_relocations b) r3;
       relocations = hold_left (each (relocation_rule b) n) (from_only_listing b) r4;
     }
@@ -73,10 +78,10 @@ held_few b h = go (or_cases (length b == 0) (accepted b) h)
   where
     go : ((length b == 0) ≡ true) ⊎ (accepted b ≡ true) → sections b ≤ 1024
     go (inl e) = omega (arith, empty_none b (eqb-true (length b) 0 e))
-    go (inr e) = (facts b e).known.few
+    go (inr e) = (facts b e).few
 
 pub header_ends : (b : List ℕ) (s : ℕ) → Facts b → s < sections b → place b s + 64 ≤ length b
-header_ends b s f l = omega (arith, f.known.ends)
+header_ends b s f l = omega (arith, f.headers)
 
 -- the checks that are made where a condition holds
 opened : (x : Bool) (cs : List Check) → x ≡ true → all_hold (where_holds x cs) ≡ true → all_hold cs ≡ true
@@ -99,7 +104,7 @@ present_kind h e z =
 
 pub sound : (b : List ℕ) (s : ℕ) → Facts b → s < sections b → present (section b s) ≡ true → Sound b (section b s)
 sound b s f l p =
-    let a = opened (present (section b s)) _ p (hold_each (pass_rule Contents b) (sections b) s l f.contents)
+    let a = opened (present (section b s)) _ p (hold_each (content_rule b) (sections b) s l f.contents)
     in let a0 = and_parts (nat_lt (section b s).flags (2 ^ 32)) _ a
     in let a1 = and_parts (nat_le (section b s).size 65535) _ a0.1
     in let a2 = and_parts (aligned (section b s).alignment) true a1.1
@@ -107,7 +112,7 @@ sound b s f l p =
       flags = ltb-true (section b s).flags (2 ^ 32) a0.0;
       size = leb-true (section b s).size 65535 a1.0;
       alignment = a2.0;
-      ends = λ k. extent_is b (long b 40) (sections b) s f.known l (present_kind (section b s) p) k f.extents;
+      ends = λ k. extent_is b s l (present_kind (section b s) p) k f.extents;
     }
 
 -- as many bytes as the header says
@@ -146,7 +151,7 @@ whole b s r f e =
       target = same;
       here = q1.1;
       few = fit.few;
-      ends = extent_is b (long b 40) (sections b) r f.known at.0 (λ z. omega (arith, fit.kind)) (λ z. omega (arith, fit.kind)) f.extents;
+      ends = extent_is b r at.0 (λ z. omega (arith, fit.kind)) (λ z. omega (arith, fit.kind)) f.extents;
       entries = subst (λ (x : ℕ). all_hold (each (entry_rule b (section b x).size (section b r).offset) ((section b r).size / 24)) ≡ true) same entries;
     }
   where
@@ -197,8 +202,8 @@ tables b f =
         in let a1 = and_parts ((section b t).stride == 24) _ a0
         in let a2 = and_parts ((section b t).size % 24 == 0) _ a1.1
         in let a3 = and_parts (nat_le ((section b t).size / 24) 65536) true a2.1
-        in let at = only_is 2 b (long b 40) (sections b) t f.known (sym e)
-        in let ends = extent_is b (long b 40) (sections b) t f.known at.0 (λ z. omega (arith, at.1)) (λ z. omega (arith, at.1)) f.extents
+        in let at = only_is 2 b t (sym e)
+        in let ends = extent_is b t at.0 (λ z. omega (arith, at.1)) (λ z. omega (arith, at.1)) f.extents
         in (
           leb-true ((section b t).size / 24) 65536 a3.0,
           omega arith,

@@ -1,7 +1,7 @@
 // The reader of objects: what it holds, what it does, and its answers as a section graph, from the bytes and the notes on
 // them, with no search.
 ghost use Rattle.std.specs.Prelude.{◌≡◌, ◌<◌, true, false, not, ◌&&◌, length, if◌then◌else◌, Some, slice_index_or};
-ghost use Rattle.elf.specs.Layout.{sections, section, entry_at, plain as plain_header};
+ghost use Rattle.elf.specs.Layout.{sections, section, entry_at, plain};
 ghost use Rattle.model.specs.declared.Setting.TheVariants.{Foldable, Pinned};
 ghost use Rattle.model.specs.Graph.{empty, record_of, byte_of, relocation_of, root_count_of, root_of};
 ghost use Rattle.checklist.specs.Checks.{answer};
@@ -12,9 +12,10 @@ ghost use Rattle.rules.specs.Verdict.{checks, verdict};
 ghost use Rattle.object.specs.Meaning.{relocation_of_entry, relocations_in};
 ghost use Rattle.object.specs.Held.{held, header_of, shown, Told, Ready};
 
-use elf::{Entry, Header, Symbol, outside, plain, present, read_entry, read_section, read_symbol};
+use arrayvec::ArrayVec;
+use elf::{Entry, Header, Symbol, read_entry, read_section, read_symbol};
 use fault::Fault;
-use field::half;
+use field::read;
 use graph::SectionGraph;
 use model::{Record, Relocation, Setting, Target};
 use reading::examine;
@@ -43,11 +44,10 @@ impl Object {
             file: Vec::new(heap),
             notes: Notes {
                 symbols: Symbols { from: 0, count: 0 },
-                parts: [65535; 1024],
+                parts: [None; 1024],
                 significant: false,
                 listed: [false; 1024],
-                roots: [0; 1024],
-                count: 0,
+                roots: ArrayVec::new(),
             },
         }
     }
@@ -70,7 +70,7 @@ impl Object {
     fn sections(&self) -> u16
         ensures { result ≡ sections (file_of self.now) }
     {
-        half(self.file.as_slice(), 60).unwrap_or(0)
+        read(self.file.as_slice(), 60).unwrap_or(0)
     }
 
     // The header of section `i`.
@@ -89,7 +89,7 @@ impl Object {
         if s >= self.sections() {
             return None;
         }
-        self.section(s).filter(|h| present(*h))
+        self.section(s).filter(|h| h.is_present())
     }
 
     // The header of the section with the relocations of section `s`, where there is one.
@@ -97,11 +97,7 @@ impl Object {
         requires { s < sections (file_of self.now) }
         ensures { result ≡ header_of (file_of self.now) (part (file_of self.now) s (sections (file_of self.now))) }
     {
-        let r = self.notes.parts[s as usize];
-        if r == 65535 {
-            return None;
-        }
-        self.section(r)
+        self.section(self.notes.parts[s as usize]?)
     }
 
     // How many relocations section `s` has.
@@ -118,9 +114,9 @@ impl Object {
     // Whether folding may join section `s`, with the header `h`, with others.
     fn setting(&self, s: u16, h: Header) -> Setting
         requires { s < sections (file_of self.now) }
-        ensures { result ≡ (if plain_header h && (self.now.notes.significant && not (slice_index_or self.now.notes.listed s false)) then Foldable else Pinned) }
+        ensures { result ≡ (if plain h && (self.now.notes.significant && not (slice_index_or self.now.notes.listed s false)) then Foldable else Pinned) }
     {
-        if plain(h) && self.notes.significant && !self.notes.listed[s as usize] {
+        if h.is_plain() && self.notes.significant && !self.notes.listed[s as usize] {
             Setting::Foldable
         } else {
             Setting::Pinned
@@ -184,7 +180,7 @@ impl Object {
     fn roots(&self) -> &[u16]
         ensures { result.now ≡ roots (file_of self.now) }
     {
-        &self.notes.roots[..self.notes.count as usize]
+        self.notes.roots.as_slice()
     }
 }
 
@@ -193,7 +189,7 @@ fn told(y: Symbol, e: Entry) -> Relocation
     requires { Told y e }
     ensures { result ≡ relocation_of_entry y e }
 {
-    let (target, displacement) = if outside(y.section) {
+    let (target, displacement) = if y.is_outside() {
         (Target::Outside(e.symbol as u16), e.addend)
     } else {
         (Target::Section(y.section), y.value as i64 + e.addend)

@@ -1,28 +1,23 @@
-use Rattle.std.proofs.Common.{◌≡◌, ℕ, ◌+◌, get_or, vec_items, Some, Option, sym, ap, ◌∙◌, arith}
-use Rattle.model.specs.Graph.{Body, told_byte}
-use Rattle.object.specs.Meaning.{low}
+use Rattle.std.proofs.Common.{◌≡◌, ℕ, ◌+◌, get_or, vec_items, Some, sym, ap, ◌∙◌, arith}
 use Rattle.std.proofs.lemmas.List.{get_or_read}
-use Rattle.object.proofs.Showing.{seen, shown_none, byte_in, byte_some, byte_zero, byte_past}
+use Rattle.object.specs.Meaning.{low}
+use Rattle.object.proofs.Showing.{seen, byte_none, byte_some, byte_zero, byte_past}
 use Rattle.object.proofs.held.Object.byte_at.Goals as goal
 
 pub returns-in_err-h : goal.returns-in_err-h
-returns-in_err-h c =
-    let e = ap (λ (o : Option Body). told_byte o c.args.i) (shown_none (vec_items c.args.self.now.file) c.args.s c.in_err-h.ensures)
-    in cc (c.from_residual.ensures, e)
+returns-in_err-h c = cc (c.from_residual.ensures, byte_none (vec_items c.args.self.now.file) c.args.s c.args.i c.in_err-h.ensures)
 
 pub returns-then-i-h : goal.returns-then-i-h
 returns-then-i-h c =
     let x = c.args.self.now
     in let b = vec_items x.file
-    in let w = seen b c.args.s c.in_ok-h.h x.met c.in_ok-h.ensures
-    in sym (byte_in b c.args.s c.args.i c.in_ok-h.h w ∙ byte_past b c.in_ok-h.h c.args.i w.sound (omega arith))
+    in sym (byte_past b c.args.s c.args.i c.in_ok-h.h (seen b c.args.s c.in_ok-h.h x.met c.in_ok-h.ensures) (omega arith))
 
 pub returns-then-h-eq8 : goal.returns-then-h-eq8
 returns-then-h-eq8 c =
     let x = c.args.self.now
     in let b = vec_items x.file
-    in let w = seen b c.args.s c.in_ok-h.h x.met c.in_ok-h.ensures
-    in sym (byte_in b c.args.s c.args.i c.in_ok-h.h w ∙ byte_zero b c.in_ok-h.h c.args.i (omega arith) (omega arith))
+    in sym (byte_zero b c.args.s c.args.i c.in_ok-h.h (seen b c.args.s c.in_ok-h.h x.met c.in_ok-h.ensures) (omega arith) (omega arith))
 
 pub overflow_add-h : goal.overflow_add-h
 overflow_add-h c =
@@ -47,4 +42,4 @@ returns c =
     in let p : ℕ = c.in_ok-h.h.offset + c.args.i
     in let read : c.index.result.now ≡ get_or b p 0 = get_or_read b p c.index.result.now (omega arith) c.index.ensures 0
     in let same : get_or b p 0 ≡ low (get_or b p 0) = omega arith
-    in ap Some (read ∙ same) ∙ sym (byte_in b c.args.s c.args.i c.in_ok-h.h w ∙ byte_some b c.in_ok-h.h c.args.i w.sound (omega arith) c.if-h-eq8.false)
+    in ap Some (read ∙ same) ∙ sym (byte_some b c.args.s c.args.i c.in_ok-h.h w (omega arith) c.if-h-eq8.false)

@@ -2,7 +2,7 @@ use Rattle.std.proofs.Common.{ℕ, List, Ok, vec_items, Option, sym, ap, subst}
 use Rattle.fault.specs.declared.Fault.{Fault}
 use Rattle.checklist.specs.Checks.{first_fault}
 use Rattle.checklist.proofs.Checks.{answer_none, verdict as verdict_law}
-use Rattle.rules.specs.Known.{Ends}
+use Rattle.rules.specs.Ending.{Ends}
 use Rattle.rules.specs.Verdict.{checks}
 use Rattle.object.specs.Reader.{after}
 use Rattle.object.proofs.Holding.{read_held}
