@@ -1,11 +1,9 @@
 // What is read, an object or a table, and what is said of any section graph.
-ghost use Rattle.std.specs.Prelude.{◌≡◌};
-
 use graph::SectionGraph;
 use model::Target;
 use std::alloc::{AllocError, Global};
 use std::io::Read;
-use std::{fs, io};
+use std::{fmt, fs, io};
 use summary::{Summary, summarize};
 
 // The bytes of a file, or of standard input.
@@ -22,63 +20,50 @@ pub fn load(rt: &HostRuntime, file: &Option<String>) -> io::Result<Vec<u8>> {
 
 // Objects begin with this byte, and no table does.
 pub fn is_object(bytes: &[u8]) -> bool {
-    match bytes.first() {
-        Some(first) => *first == 0x7f,
-        None => false,
-    }
+    bytes.first() == Some(&0x7f)
 }
 
-fn mark_names<G: SectionGraph>(graph: &G, s: u16, count: u16, seen: &mut Vec<bool>)
-    requires { G.SectionGraph.sound graph.now }
-{
-    for j in 0..count {
-        if let Some(relocation) = graph.relocation(s, j) {
-            if let Target::Outside(name) = relocation.target {
-                if let Some(mark) = seen.get_mut(usize::from(name)) {
-                    *mark = true;
+// How many outside names are used.
+fn outside_names<G: SectionGraph>(heap: Global, graph: &G) -> Result<usize, AllocError> {
+    let mut seen = vec![in heap; false; 65536]?;
+    for s in 0..graph.count() {
+        if let Some(section) = graph.record_of(s) {
+            for j in 0..section.relocations {
+                if let Some(relocation) = graph.relocation(s, j)
+                    && let Target::Outside(name) = relocation.target
+                    && let Some(used) = seen.get_mut(usize::from(name))
+                {
+                    *used = true;
                 }
             }
         }
     }
+    Ok(seen.iter().filter(|used| **used).count())
 }
 
-// How many outside names are used.
-fn outside_names<G: SectionGraph>(heap: Global, graph: &G) -> Result<usize, AllocError>
-    requires { G.SectionGraph.sound graph.now }
-{
-    let mut seen = vec![in heap; false; 65536]?;
-    for s in 0..graph.count() {
-        if let Some(section) = graph.record_of(s) {
-            mark_names(graph, s, section.relocations, &mut seen);
-        }
+// What a section graph holds; it prints as lines.
+#[derive(Clone, Copy)]
+pub struct Description {
+    summary: Summary,
+    outside_names: usize,
+}
+
+impl fmt::Display for Description {
+    fn fmt<W: fmt::Write>(&self, f: &mut fmt::Formatter<W>) -> fmt::Result {
+        let told = self.summary;
+        let foldable = told.present.saturating_sub(told.pinned);
+        writeln!(f, "sections       {}, {} present", told.sections, told.present)?;
+        writeln!(f, "settings       {} pinned, {foldable} foldable", told.pinned)?;
+        writeln!(f, "bytes          {}", told.bytes)?;
+        writeln!(f, "relocations    {}", told.relocations)?;
+        writeln!(f, "outside names  {}", self.outside_names)?;
+        write!(f, "roots          {}", told.roots)
     }
-    let mut names = 0usize;
-    for used in seen.as_slice() {
-        if *used {
-            names = names.saturating_add(1);
-        }
-    }
-    Ok(names)
 }
 
-fn lines(heap: Global, told: &Summary, names: usize) -> Result<String, AllocError> {
-    let sections = told.sections;
-    let present = told.present;
-    let pinned = told.pinned;
-    let foldable = present.saturating_sub(pinned);
-    let bytes = told.bytes;
-    let relocations = told.relocations;
-    let roots = told.roots;
-    format!(in heap;
-        "sections       {sections}, {present} present\nsettings       {pinned} pinned, {foldable} foldable\nbytes          {bytes}\nrelocations    {relocations}\noutside names  {names}\nroots          {roots}"
-    )
-}
-
-// What a section graph holds, in lines.
-pub fn describe<G: SectionGraph>(heap: Global, graph: &G) -> Result<String, AllocError>
-    requires { G.SectionGraph.sound graph.now }
-{
-    let told = summarize(graph);
-    let names = outside_names(heap, graph)?;
-    lines(heap, &told, names)
+pub fn describe<G: SectionGraph>(heap: Global, graph: &G) -> Result<Description, AllocError> {
+    Ok(Description {
+        summary: summarize(graph),
+        outside_names: outside_names(heap, graph)?,
+    })
 }

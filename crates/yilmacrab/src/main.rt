@@ -4,13 +4,14 @@
 
 mod check;
 mod graphs;
+mod input;
 mod options;
 mod output;
 mod refusal;
 mod stale;
 mod table_of;
 
-use anyhow::anyhow;
+use anyhow::bail;
 use options::{Options, read_options};
 use std::env;
 use std::process::ExitCode;
@@ -40,7 +41,7 @@ fn perform(rt: &HostRuntime, command: &str, options: Options) -> anyhow::Result<
         "check" => check::check(rt, options),
         "table" => table_of::table(rt, options),
         "--help" | "-h" | "help" => help(rt),
-        _ => Err(anyhow!("no such command; yilmacrab --help lists them")),
+        _ => bail!("no such command; yilmacrab --help lists them"),
     }
 }
 

@@ -1,8 +1,8 @@
 // The words after a command.
-use anyhow::anyhow;
+use anyhow::{Context, bail};
 use std::env::Args;
 
-#[derive(Drop)]
+#[derive(Drop, Default)]
 pub struct Options {
     // the file that is read; without one, standard input
     pub file: Option<String>,
@@ -10,26 +10,22 @@ pub struct Options {
     pub output: Option<String>,
 }
 
-pub fn read_options(words: Args) -> anyhow::Result<Options> {
-    let mut words = words;
-    let mut file = None;
-    let mut output = None;
+// At most 64 words and file names: what comes after is refused, and the loop ends.
+pub fn read_options(mut words: Args) -> anyhow::Result<Options> {
+    let mut options = Options::default();
     for _ in 0..64u8 {
         let Some(word) = words.next() else {
-            return Ok(Options { file, output });
+            return Ok(options);
         };
         if word.as_str() == "-o" {
-            let Some(path) = words.next() else {
-                return Err(anyhow!("a file name has to follow -o"));
-            };
-            output = Some(path);
+            options.output = Some(words.next().context("a file name has to follow -o")?);
         } else if word.as_str().starts_with('-') {
-            return Err(anyhow!("no such option; yilmacrab --help lists them"));
-        } else if file.is_some() {
-            return Err(anyhow!("only one file can be read"));
+            bail!("no such option; yilmacrab --help lists them");
+        } else if options.file.is_some() {
+            bail!("only one file can be read");
         } else {
-            file = Some(word);
+            options.file = Some(word);
         }
     }
-    Err(anyhow!("too many words"))
+    bail!("too many words")
 }

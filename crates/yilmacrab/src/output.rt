@@ -1,14 +1,13 @@
 // Writing a section table to where it goes.
-use crate::graphs::describe;
+use crate::graphs::{Description, describe};
 use crate::options::Options;
-use crate::refusal::refuse;
+use crate::refusal::accepted;
 use graph::SectionGraph;
-use std::alloc::{AllocError, Global};
 use std::fs;
 use std::io::Write;
 use table_writer::{table_length, write_table};
 
-fn send(rt: &HostRuntime, options: &Options, text: &[u8], said: &str) -> anyhow::Result<()> {
+fn send(rt: &HostRuntime, options: &Options, text: &[u8], said: Description) -> anyhow::Result<()> {
     match &options.output {
         Some(path) => {
             fs::write(rt, path.as_str(), text)?;
@@ -27,13 +26,9 @@ pub fn write_out<G: SectionGraph>(
     rt: &HostRuntime,
     graph: &G,
     options: &Options,
-) -> anyhow::Result<()>
-    requires { G.SectionGraph.sound graph.now }
-{
+) -> anyhow::Result<()> {
     let said = describe(rt.alloc(), graph)?;
     let mut text = vec![in rt.alloc(); 0u8; table_length(graph)]?;
-    match write_table(graph, text.as_mut_slice()) {
-        Ok(_) => send(rt, options, text.as_slice(), said.as_str()),
-        Err(fault) => refuse(rt, fault),
-    }
+    accepted(rt, write_table(graph, text.as_mut_slice()))?;
+    send(rt, options, text.as_slice(), said)
 }

@@ -10,10 +10,7 @@ const SYMBOLS: u32 = 2;
 // A field at `place` of section header `i`; none where it runs past the end.
 fn header_word(file: &[u8], table: u64, i: u16, place: u64) -> Option<u32> {
     let from = table.checked_add(64 * u64::from(i))?.checked_add(place)?;
-    match read(file, from) {
-        Ok(found) => Some(found),
-        Err(_) => None,
-    }
+    read(file, from).ok()
 }
 
 // Whether the list names another section than the symbol table.
@@ -25,14 +22,9 @@ fn is_stale(file: &[u8]) -> bool {
     let mut link = None;
     for i in 0..count {
         match header_word(file, table, i, 4) {
-            Some(kind) => {
-                if kind == SYMBOLS {
-                    symbols = Some(u32::from(i));
-                } else if kind == SIGNIFICANT {
-                    link = header_word(file, table, i, 40);
-                }
-            }
-            None => {}
+            Some(SYMBOLS) => symbols = Some(u32::from(i)),
+            Some(SIGNIFICANT) => link = header_word(file, table, i, 40),
+            _ => {}
         }
     }
     link.is_some() && link != symbols
