@@ -88,8 +88,8 @@ impl<'a, G: SectionGraph> Walk<'a, G> {
         }
     }
 
-    // Marks section `s` and puts it on the list, unless it is marked already: so each section is listed once, and there is
-    // room, since no more are listed than are marked.
+    // Marks section `s`, which is pending from then on, unless it is marked already: so each section is entered once, and there
+    // is room, since no more are pending than are marked.
     fn enter(&mut self, s: u16)
         requires { reached (G.SectionGraph.graph self.old.graph.now) s ≡ true }
         ensures graph { self.new.graph ≡ self.old.graph }
