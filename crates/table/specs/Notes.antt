@@ -1,5 +1,5 @@
 -- What the reader of a table notes while it checks the text: where the row of each present section begins.
-use Rattle.std.specs.Prelude.{◌≡◌, ℕ, ◌+◌, ◌<◌, ◌≤◌, Bool, false, cond, not, List, [], ◌∷◌, length, drop, replicate, is_some, Some, None, Ok, Err, Option, Result, slice_index_or, slice_set}
+use Rattle.std.specs.Prelude.{ℕ, ◌+◌, Bool, false, cond, not, List, [], ◌∷◌, length, replicate, is_some, Some, None, Ok, Err, Option, Result, slice_index_or, slice_set}
 use Rattle.fault.specs.declared.Fault.{Fault}
 use Rattle.lines.specs.Lines.{lines}
 use Rattle.row.specs.declared.Cause.{Cause}

@@ -75,6 +75,7 @@ fn note(row: &Row<'_>, at: usize, starts: &mut Starts)
     ensures { starts.new ≡ note_entry (told row.now) at starts.old }
 {
     if let Row::Section { number, .. } = row {
+        // by index: of a write through `get_mut` a proof knows the length alone
         let s = usize::from(*number);
         if s < 1024 {
             starts[s] = Some(at);
