@@ -22,7 +22,7 @@ use Rattle.field.specs.Fields.{half, within, short}
 use Rattle.elf.specs.Layout.{place}
 use Rattle.rules.specs.Rules.{relocates}
 use Rattle.reading.proofs.Firsts.{first_where_is}
-use Rattle.object.specs.Facts.{Facts, held_facts, held_few, held_short, header_ends, Sound, sound, bytes_length, Whole, whole, entered, tables, value_within, inside}
+use Rattle.object.specs.Facts.{Facts, held_facts, held_short, header_ends, Sound, sound, bytes_length, Whole, whole, entered, tables, value_within, inside}
 use Rattle.object.specs.Held.{Ready}
 use Rattle.object.specs.Lawful.{section_at, section_past, range_low, range_high}
 

@@ -52,8 +52,16 @@ impl fmt::Display for Description {
     fn fmt<W: fmt::Write>(&self, f: &mut fmt::Formatter<W>) -> fmt::Result {
         let told = self.summary;
         let foldable = told.present.saturating_sub(told.pinned);
-        writeln!(f, "sections       {}, {} present", told.sections, told.present)?;
-        writeln!(f, "settings       {} pinned, {foldable} foldable", told.pinned)?;
+        writeln!(
+            f,
+            "sections       {}, {} present",
+            told.sections, told.present
+        )?;
+        writeln!(
+            f,
+            "settings       {} pinned, {foldable} foldable",
+            told.pinned
+        )?;
         writeln!(f, "bytes          {}", told.bytes)?;
         writeln!(f, "relocations    {}", told.relocations)?;
         writeln!(f, "outside names  {}", self.outside_names)?;

@@ -18,6 +18,7 @@ fn is_stale(file: &[u8]) -> bool {
     let (Ok(table), Ok(count)) = (read::<u64>(file, 40), read::<u16>(file, 60)) else {
         return false;
     };
+    // a loop, since both are found in one pass over the headers
     let mut symbols = None;
     let mut link = None;
     for i in 0..count {
