@@ -25,6 +25,15 @@ use rules::{
 };
 use std::ops::ControlFlow;
 
+// An object whose sections end within the file, with its symbols and the number of the section that they are in.
+#[derive(Clone, Copy)]
+struct Object<'a> {
+    table: SymbolTable<'a>,
+    number: Option<u16>,
+    ghost found: { number ≡ table_in table.headers.bytes.now },
+    ghost extents: { first_fault (each (extent_rule table.headers.bytes.now) (sections table.headers.bytes.now)) ≡ None },
+}
+
 // All sections in a pass: the rule of each, by the place of its header and the header.
 fn every_section<F: Fn(u64, Header) -> Result<(), Fault>>(
     headers: Headers,
@@ -92,12 +101,17 @@ fn symbol_table(headers: Headers, number: Option<u16>) -> Result<Symbols, Fault>
 }
 
 // Section `i` as one with relocations.
-fn part_of(table: SymbolTable, parts: &[Option<u16>; 1024], i: u16) -> Result<Option<Part>, Fault>
-    requires below { i < table.headers.count }
-    requires parted { Parted table.headers.bytes.now i parts.now }
-    ensures { result ≡ answer (first_fault (part_checks table.entry.headers.bytes.now i (place table.entry.headers.bytes.now i) (section table.entry.headers.bytes.now i))) (told_part table.entry.headers.bytes.now (section table.entry.headers.bytes.now i)) }
+fn part_of(
+    headers: Headers,
+    number: Option<u16>,
+    parts: &[Option<u16>; 1024],
+    i: u16,
+) -> Result<Option<Part>, Fault>
+    requires below { i < headers.count }
+    requires found { number ≡ table_in headers.bytes.now }
+    requires parted { Parted headers.bytes.now i parts.now }
+    ensures { result ≡ answer (first_fault (part_checks headers.entry.bytes.now i (place headers.entry.bytes.now i) (section headers.entry.bytes.now i))) (told_part headers.entry.bytes.now (section headers.entry.bytes.now i)) }
 {
-    let headers = table.headers;
     let p = headers.place(i);
     let h = headers.section(i);
     if !relocating(h) {
@@ -111,7 +125,7 @@ fn part_of(table: SymbolTable, parts: &[Option<u16>; 1024], i: u16) -> Result<Op
         return Ok(None);
     }
     let taken = noted(parts, h.info);
-    let linked = is_number(table.number, h.link);
+    let linked = is_number(number, h.link);
     let count = fits(p, h, taken, linked)?;
     Ok(Some(Part {
         target: h.info,
@@ -122,14 +136,14 @@ fn part_of(table: SymbolTable, parts: &[Option<u16>; 1024], i: u16) -> Result<Op
 }
 
 // The relocations of all sections, left at the first fault; for each section the number of the one with its relocations.
-fn relocations(table: SymbolTable) -> Result<[Option<u16>; 1024], Fault>
-    ensures { result ≡ answer (first_fault (each (relocation_rule table.entry.headers.bytes.now) (sections table.entry.headers.bytes.now))) (parts table.entry.headers.bytes.now) }
+fn relocations(object: Object) -> Result<[Option<u16>; 1024], Fault>
+    ensures { result ≡ answer (first_fault (each (relocation_rule object.entry.table.headers.bytes.now) (sections object.entry.table.headers.bytes.now))) (parts object.entry.table.headers.bytes.now) }
 {
     let mut parts = [None; 1024];
     let mut refused = None;
     // nested loops, left by the label at the first fault: a form that was asked for
-    'reading: for i in 0..table.headers.count {
-        match part_of(table, &parts, i) {
+    'reading: for i in 0..object.table.headers.count {
+        match part_of(object.table.headers, object.number, &parts, i) {
             Err(f) => {
                 refused = Some(f);
                 break 'reading;
@@ -139,7 +153,7 @@ fn relocations(table: SymbolTable) -> Result<[Option<u16>; 1024], Fault>
                     parts[part.target as usize] = Some(i);
                     for j in 0..part.count {
                         let q = part.from + 24 * j as u64;
-                        if let Err(f) = table.entry_at(part.size, q) {
+                        if let Err(f) = object.table.entry_at(part.size, q) {
                             refused = Some(f);
                             break 'reading;
                         }
@@ -193,13 +207,13 @@ fn listing_at(table: SymbolTable, a: u16) -> Result<[bool; 1024], Fault>
 }
 
 // The address-significance table, where there is one.
-fn significance(table: SymbolTable, found: Option<u16>) -> Result<[bool; 1024], Fault>
-    requires { found ≡ significance_in table.headers.bytes.now }
-    ensures { result ≡ answer (first_fault (listing_rule table.entry.headers.bytes.now)) (marks table.entry.headers.bytes.now) }
+fn significance(object: Object, found: Option<u16>) -> Result<[bool; 1024], Fault>
+    requires { found ≡ significance_in object.table.headers.bytes.now }
+    ensures { result ≡ answer (first_fault (listing_rule object.entry.table.headers.bytes.now)) (marks object.entry.table.headers.bytes.now) }
 {
     match found {
         None => Ok([false; 1024]),
-        Some(a) => listing_at(table, a),
+        Some(a) => listing_at(object.table, a),
     }
 }
 
@@ -226,14 +240,11 @@ pub fn examine(b: &[u8]) -> Result<Notes, Fault>
     every_section(headers, content)?;
     let number = only(headers, 2)?;
     let symbols = symbol_table(headers, number)?;
-    let table = SymbolTable {
-        headers,
-        number,
-        symbols,
-    };
-    let parts = relocations(table)?;
+    let table = SymbolTable { headers, symbols };
+    let object = Object { table, number };
+    let parts = relocations(object)?;
     let found = only(headers, 0x6fff4c03)?;
-    let listed = significance(table, found)?;
+    let listed = significance(object, found)?;
     Ok(Notes {
         symbols,
         parts,

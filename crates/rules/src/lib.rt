@@ -4,11 +4,11 @@
 #![tactic(auto)]
 
 ghost use Rattle.std.specs.Prelude.{◌≡◌, ◌+◌, ◌*◌, ◌/◌, ◌<◌, ◌≤◌, length, is_some, if◌then◌else◌, Some, None, Ok, MatchResult, ◌==◌, nat_eq, nat_le, slice_index_or};
-ghost use Rattle.checklist.specs.Checks.{first_fault, answer, each};
+ghost use Rattle.checklist.specs.Checks.{first_fault, answer};
 ghost use Rattle.elf.specs.Layout.{sections, place, section, entry_at};
 ghost use Rattle.rules.specs.Known.{Headed, Tabled};
 ghost use Rattle.rules.specs.Listing.{number_checks, marked};
-ghost use Rattle.rules.specs.Rules.{fault_at, cut_at, identified as identified_by, head_rule, extent_checks, content_checks, extent_rule, only_checks, earlier, is_number, fit_checks, symbol, symbols as symbols_in, reached, entry_checks, relocating as relocating_header, table as table_in, table_checks, symbol_checks};
+ghost use Rattle.rules.specs.Rules.{fault_at, cut_at, identified as identified_by, head_rule, extent_checks, content_checks, only_checks, earlier, is_number, fit_checks, symbol, symbols as symbols_in, reached, entry_checks, relocating as relocating_header, table_checks, symbol_checks};
 
 use arrayvec::ArrayVec;
 use elf::{Entry, Header, Symbol, aligned, read_entry, read_header, read_symbol};
@@ -53,15 +53,12 @@ pub struct Headers<'a> {
     ghost headed: { Headed bytes.now first count },
 }
 
-// An object whose sections end within the file, with its symbols and the number of the section that they are in.
+// The symbols of an object, which stand in the file.
 #[derive(Clone, Copy)]
 pub struct SymbolTable<'a> {
     pub headers: Headers<'a>,
-    pub number: Option<u16>,
     pub symbols: Symbols,
-    ghost found: { number ≡ table_in headers.bytes.now },
     ghost tabled: { Tabled headers.bytes.now symbols },
-    ghost extents: { first_fault (each (extent_rule headers.bytes.now) (sections headers.bytes.now)) ≡ None },
 }
 
 // A refusal of the format.

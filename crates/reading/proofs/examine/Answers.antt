@@ -63,9 +63,15 @@ pub invariant_of-table : goal.invariant_of-table
 invariant_of-table c =
     let hb = c.in_ok-headers.headers.bytes.now
     in let extents = ok_none (first_fault (each (extent_rule hb) (sections hb))) c.in_ok-every_section.field-0 tt (c.in_ok-every_section.ensures (extent_checks (length hb)) (λ p h r k. search rules))
-    in let alone = ok_none (first_fault (each (only_rule 2 hb) (sections hb))) c.in_ok-number.number (the_only 2 hb) c.in_ok-number.ensures
     in let entries = ok_none (first_fault (table_rule hb)) c.in_ok-symbols.symbols (symbols hb) c.in_ok-symbols.ensures
-    in record { found = alone.1; tabled = subst (Tabled hb) (sym entries.1) (tabled hb extents.0); extents = extents.0 }
+    in record { tabled = subst (Tabled hb) (sym entries.1) (tabled hb extents.0) }
+
+pub invariant_of-object : goal.invariant_of-object
+invariant_of-object c =
+    let hb = c.in_ok-headers.headers.bytes.now
+    in let extents = ok_none (first_fault (each (extent_rule hb) (sections hb))) c.in_ok-every_section.field-0 tt (c.in_ok-every_section.ensures (extent_checks (length hb)) (λ p h r k. search rules))
+    in let alone = ok_none (first_fault (each (only_rule 2 hb) (sections hb))) c.in_ok-number.number (the_only 2 hb) c.in_ok-number.ensures
+    in record { found = alone.1; extents = extents.0 }
 
 pub returns-in_err-parts : goal.returns-in_err-parts
 returns-in_err-parts c =

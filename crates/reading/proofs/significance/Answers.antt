@@ -11,22 +11,22 @@ use Rattle.reading.proofs.significance.Goals as goal
 
 pub listing_at-requires : goal.listing_at-requires
 listing_at-requires c =
-    let b = c.args.table.headers.bytes.now
+    let b = c.args.object.table.headers.bytes.now
     in let at = only_is significance_kind b c.in-Some.a (sym c.in-Some.is ∙ c.requires)
     in record {
-      below = omega (arith, at.0, c.args.table.headers.headed.count_right);
-      inside = extent_is b c.in-Some.a at.0 (λ e. omega (arith, at.1)) (λ e. omega (arith, at.1)) c.args.table.extents;
+      below = omega (arith, at.0, c.args.object.table.headers.headed.count_right);
+      inside = extent_is b c.in-Some.a at.0 (λ e. omega (arith, at.1)) (λ e. omega (arith, at.1)) c.args.object.extents;
     }
 
 pub returns-in-None : goal.returns-in-None
 returns-in-None c =
-    let b = c.args.table.headers.bytes.now
+    let b = c.args.object.table.headers.bytes.now
     in let none = unlisted b (sym c.in-None.is ∙ c.requires)
     in ap Ok none.1 ∙ answer_none (first_fault (listing_rule b)) (marks b) none.0
 
 pub returns-in-Some : goal.returns-in-Some
 returns-in-Some c =
-    let b = c.args.table.headers.bytes.now
+    let b = c.args.object.table.headers.bytes.now
     in c.listing_at.ensures
     ∙ ap (λ (o : Option ℕ). answer (first_fault (item_checks (symbols b).count (listing_of b o))) (map (listed_in b (listing_of b o)) (range_with_len 0 1024)))
     (sym c.in-Some.is ∙ c.requires)
