@@ -1,6 +1,6 @@
 -- What each call does to a sound pile.
 use Rattle.std.specs.Prelude.{◌≡◌, ℕ, ◌+◌, ◌<◌, ◌≤◌, Bool, List, [], ◌∷◌, ◌++◌, length, take, is_some, Some, None, Ok, Err, Option, Result, slice_index_or, refl}
-use Rattle.std.proofs.Common.{arith, sym, ap, subst, ◌∙◌, append_assoc}
+use Rattle.std.proofs.Common.{sym, ap, subst, ◌∙◌, append_assoc}
 use Rattle.std.proofs.Math.Logic.{∥∥₁_elim, ∥∥₁_prop}
 use Rattle.std.proofs.lemmas.List.{append-nil, take_all, take_more}
 use Rattle.arrayvec.specs.ArrayVec.{array_vec_len}
@@ -184,9 +184,6 @@ module _ (g : Graph) (v : Valid g) (t : Ledger) (sound : Sound g t) where
       (λ r. shut_bounds (few g v t) r.bounds three)
       (λ r. told_fold g v t t' a b r three)
       (fold_answer g v t t' a b k ek three)
-
-  pub count_small : (n : ℕ) → n ≡ count_of (told g t).graph → n ≤ 1024
-  count_small n e = omega (arith, few g v t)
 
 -- a list of calls, one more
 
