@@ -33,7 +33,7 @@ fn sections_length<G: SectionGraph>(graph: &G) -> usize
     ensures table { result + (14 * root_count_of (G.SectionGraph.graph graph.now) + 40) ≡ length (text_of (G.SectionGraph.graph graph.now)) }
     ensures few { result ≤ 5120000000 }
 {
-    // a `for`: what bounds the sum is the loop's invariant, and a chain's `sum` asks for the bound beforehand
+    // a `for`: of the chain's `sum` the bound was proved, and that the total is the sections' length was not closed yet
     let mut sum = 0;
     for s in 0..graph.count() {
         if let Some(record) = graph.record_of(s) {
@@ -65,7 +65,7 @@ fn present<G: SectionGraph>(graph: &G) -> u16
     count
 }
 
-// Writes the pieces of a text, each behind the last.
+// Writes the pieces of a text, each behind the last. A `for`: the writers take the part where the last row ended.
 fn write_each<F: Fn(u16, &mut [u8]) -> Result<usize, Fault>>(
     count: u16,
     out: &mut [u8],
@@ -81,6 +81,8 @@ fn write_each<F: Fn(u16, &mut [u8]) -> Result<usize, Fault>>(
     }
     Ok(at)
 }
+
+// `graph`, a number and `out` are parameters of each writer below, and no struct: each takes another part of the buffer.
 
 // Writes the row of the sixteen bytes of section `s` from `16 * k` on, or of those that are left. There are `size`.
 fn write_byte_row<G: SectionGraph>(
@@ -197,7 +199,8 @@ fn write_rows<G: SectionGraph>(graph: &G, out: &mut [u8]) -> Result<usize, Fault
     Ok(at)
 }
 
-// Writes a table whose length is known, or refuses a buffer that is shorter.
+// Writes a table whose length is known, or refuses a buffer that is shorter. A function of its own: a wrong length is refused
+// where it is called. The test is the one that the writer of a row makes: a function for the two would be no shorter.
 fn write_within<G: SectionGraph>(graph: &G, needed: usize, out: &mut [u8]) -> Result<usize, Fault>
     requires { needed ≡ length (text_of (G.SectionGraph.graph graph.now)) }
     ensures answer { result ≡ wrote (text_of (G.SectionGraph.graph graph.now)) out.old }
