@@ -44,7 +44,8 @@ pub enum Place {
     Absent,
 }
 
-// What a call answers. `present` counts the sections that are present after the call.
+// What a call answers. `present` counts the sections that are present after the call. No Result: an answer is data that the
+// theorems speak of, and a list of calls goes on after a refusal.
 #[derive(Clone, Copy, PartialEq, Eq, Debug)]
 pub enum Answer {
     // a bind, pin or root was done

@@ -26,7 +26,8 @@ pub fn read_column(text: &[u8]) -> Option<i64>
     }
 }
 
-// The number that a column holds, which is short enough for 64 bits.
+// The number that a column holds, which is short enough for 64 bits. The bound stands again at each function that is
+// handed a part of the text: a type for short texts would have each part shown short again.
 fn read_short(text: &[u8]) -> Option<i64>
     requires { length text.now ≤ 18 }
     ensures { result ≡ read_column text.now }
@@ -74,7 +75,8 @@ fn read_natural(text: &[u8]) -> Option<u64>
     }
 }
 
-// The number that the digits write.
+// The number that the digits write. A closure of `try_fold` is not told how many digits were read, by which the sum is
+// bounded.
 fn gather(text: &[u8]) -> Option<u64>
     requires { length text.now ≤ 18 }
     ensures value { result ≡ gathered 0 text.now }
@@ -120,7 +122,7 @@ pub fn write_column(value: i64, out: &mut [u8]) -> Result<(), TooNarrow>
 }
 
 // Fills the slice with the digits of a size, and with a minus before them or none, right-justified where they fit, and
-// else leaves it.
+// else leaves it. The minus stands beside the size, since digits are written of a size.
 fn write_signed(minus: bool, size: u64, out: &mut [u8]) -> Result<(), TooNarrow>
     ensures fits { IsOk result ↔ (length (signed minus size) ≤ length out.old) }
     ensures filled { OnOk result (out.new ≡ justified (length out.old) (signed minus size)) }

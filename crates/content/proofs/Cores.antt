@@ -12,8 +12,8 @@ use Rattle.unfolding.specs.Telling.{told_target}
 use Rattle.unfolding.specs.Sections.{Face, face_of, same_face, rules}
 use Rattle.unfolding.proofs.Same.{decides_both, integer_decides}
 use Rattle.unfolding.proofs.Rules.{lawful_rules}
-use Rattle.content.specs.Core.{unnamed, bare, same_outside, same_bare, Core, core_of, same_core, told_count, mixed_arm, mixed_arms}
-use Rattle.content.specs.Aims.{relocations_in}
+use Rattle.content.specs.Core.{unnamed, bare, same_outside, same_bare, Core, core_of, same_core, mixed_arm, mixed_arms}
+use Rattle.graph.specs.Bytes.{relocations_in, told_count}
 use Rattle.content.proofs.Tested.{relocation_nth, count_length}
 
 outside_decides : (a b : Target) → Decides (same_outside a b) (told_map unnamed (told_target a) ≡ told_map unnamed (told_target b))

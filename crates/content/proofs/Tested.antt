@@ -6,8 +6,7 @@ use Rattle.model.specs.declared.Relocation.{Relocation}
 use Rattle.model.specs.Graph.{Body, told_relocation, told_record}
 use Rattle.graph.proofs.Places.{drop_nth, nth_none}
 use Rattle.unfolding.specs.Depth.{same_list}
-use Rattle.content.specs.Core.{told_count}
-use Rattle.content.specs.Aims.{relocations_in}
+use Rattle.graph.specs.Bytes.{relocations_in, told_count}
 
 -- two answers pass a test, or both are none
 abbrev pub both_told : {X : Type 0} → (X → X → Bool) → Option X → Option X → Bool

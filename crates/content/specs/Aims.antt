@@ -1,13 +1,8 @@
 -- The sections that relocations point at, by their classes.
-use Rattle.std.specs.Prelude.{ℕ, Bool, true, cond, List, [], Some, None, Option, ◌==◌, nat_lt, slice_index}
+use Rattle.std.specs.Prelude.{ℕ, Bool, true, cond, List, ◌==◌, nat_lt, slice_index}
 use Rattle.model.specs.declared.Target.{Target}
 use Rattle.model.specs.declared.Target.TheVariants.{Section, Outside}
 use Rattle.model.specs.declared.Relocation.{Relocation}
-use Rattle.model.specs.Graph.{Body}
-
-abbrev pub relocations_in : Option Body → List Relocation
-relocations_in None = []
-relocations_in (Some b) = b.relocations
 
 -- the class of section t in a list of classes, 0 past the 1,024th
 abbrev pub class_in : List ℕ → ℕ → ℕ

@@ -5,18 +5,12 @@ use Rattle.model.specs.declared.Target.TheVariants.{Section, Outside}
 use Rattle.model.specs.declared.Relocation.{Relocation}
 use Rattle.model.specs.declared.Record.{Record}
 use Rattle.model.specs.Graph.{Body}
-use Rattle.graph.specs.Bytes.{mixed, digest}
+use Rattle.graph.specs.Bytes.{relocations_in, mixed, digest}
 use Rattle.unfolding.specs.Depth.{Told, outside, section, Arm, arm_map, same_integer, same_list}
 use Rattle.unfolding.specs.Telling.{arm}
 use Rattle.unfolding.specs.Sections.{Face, face_of, same_face}
-use Rattle.content.specs.Aims.{relocations_in}
 
--- what a record tells, 0 of an absent section
-
-abbrev pub told_count : Option Record → ℕ
-told_count None = 0
-told_count (Some r) = r.relocations
-
+-- flags and alignment as a record tells them, 0 of an absent section
 abbrev pub told_face : Option Record → ℕ × ℕ
 told_face None = (0, 0)
 told_face (Some r) = (r.flags, r.alignment)

@@ -6,12 +6,13 @@
 ghost use Rattle.std.specs.Prelude.{◌≡◌, Bool};
 ghost use Rattle.model.specs.declared.Relocation.{Relocation};
 ghost use Rattle.model.specs.Graph.{record_of, section_of};
+ghost use Rattle.graph.specs.Bytes.{relocations_in};
 ghost use Rattle.unfolding.specs.Depth.{same_list};
 ghost use Rattle.unfolding.specs.Groups.{foldable};
-ghost use Rattle.content.specs.Core.{told_count, told_face, Computes, same_bare, same_core, core_of, mixed_arm, bare, digest_core};
-ghost use Rattle.content.specs.Aims.{relocations_in, class_in, same_aim_at, same_aim};
+ghost use Rattle.content.specs.Core.{told_face, Computes, same_bare, same_core, core_of, mixed_arm, bare, digest_core};
+ghost use Rattle.content.specs.Aims.{class_in, same_aim_at, same_aim};
 
-use graph::{SectionGraph, mix};
+use graph::{SectionGraph, mix, relocations_told};
 use model::{Record, Relocation, Setting, Target};
 
 // Whether section `s` is present and foldable.
@@ -21,13 +22,6 @@ pub fn may_fold<G: SectionGraph>(graph: &G, s: u16) -> bool
     graph
         .record_of(s)
         .is_some_and(|x| x.setting == Setting::Foldable)
-}
-
-// How many relocations a record tells, 0 of an absent section.
-fn count_of(told: Option<Record>) -> u16
-    ensures { result ≡ told_count told }
-{
-    told.map_or(0, |x| x.relocations)
 }
 
 // Flags and alignment as a record tells them, 0 of an absent section.
@@ -81,8 +75,8 @@ fn all_alike<G: SectionGraph, F: Fn(Relocation, Relocation) -> bool>(
     requires { F.IsAlwaysCallable alike }
     ensures { (test : Relocation → Relocation → Bool) → Computes (F.post alike) test → result ≡ same_list test (relocations_in (section_of (G.SectionGraph.graph graph.now) s)) (relocations_in (section_of (G.SectionGraph.graph graph.now) t)) }
 {
-    let count = count_of(graph.record_of(s));
-    if count != count_of(graph.record_of(t)) {
+    let count = relocations_told(graph.record_of(s));
+    if count != relocations_told(graph.record_of(t)) {
         return false;
     }
     for j in 0..count {
@@ -150,7 +144,7 @@ pub fn content_digest<G: SectionGraph>(graph: &G, s: u16) -> u64
         mix(graph.byte_digest(s), u64::from(flags)),
         u64::from(alignment),
     );
-    for j in 0..count_of(told) {
+    for j in 0..relocations_told(told) {
         if let Some(r) = graph.relocation(s, j) {
             digest = mix_link(digest, r);
         }

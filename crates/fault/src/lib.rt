@@ -5,51 +5,51 @@
 ghost use Rattle.std.specs.Prelude.{◌≡◌};
 ghost use Rattle.fault.specs.Numbers.{kind_number, layer_number};
 
-use std::error::Error;
-use std::fmt;
+use thiserror::Error;
 
-// Why an input or a call is refused.
-#[derive(Clone, Copy, PartialEq, Eq, Debug)]
+// Why an input or a call is refused, each with the number by which it is known outside the library.
+#[derive(Clone, Copy, PartialEq, Eq, Debug, Error)]
 pub enum Kind {
-    // a part of the object runs past its end
-    Short,
-    // not an object of the kind that is read
-    Foreign,
-    // a count or a length above its limit
-    Oversize,
-    // a number that names no section or symbol
-    Dangling,
-    // a field with a value that the rules do not allow
-    Misshapen,
-    // a row of a table that does not form
-    BadRow,
-    // the pile was swept or folded
-    Closed,
-    // no such section, or an absent one
-    NoSection,
-    // the outside name was bound before
-    Bound,
-    // no room for another bind or root
-    Full,
-    // the buffer is too short
-    Small,
+    #[error("a part runs past the end")]
+    Short = 1,
+    #[error("not a file of the kind that is read")]
+    Foreign = 2,
+    #[error("a count or a length is above its limit")]
+    Oversize = 3,
+    #[error("a number names no section or symbol")]
+    Dangling = 4,
+    #[error("a field has a value that is not allowed")]
+    Misshapen = 5,
+    #[error("a row does not form, or does not belong here")]
+    BadRow = 6,
+    #[error("the pile was swept or folded")]
+    Closed = 7,
+    #[error("no such section")]
+    NoSection = 8,
+    #[error("the name was bound before")]
+    Bound = 9,
+    #[error("no room for another")]
+    Full = 10,
+    #[error("the buffer is too short")]
+    Small = 11,
 }
 
-// Which part of the library refused.
+// Which part of the library refused, with its number.
 #[derive(Clone, Copy, PartialEq, Eq, Debug)]
 pub enum Layer {
     // fields and ULEB128 numbers
-    Field,
+    Field = 1,
     // objects and tables
-    Format,
+    Format = 2,
     // the pile
-    Pile,
+    Pile = 3,
     // writers and programs
-    Output,
+    Output = 4,
 }
 
 // A refusal. It goes up to the caller unchanged.
-#[derive(Clone, Copy, PartialEq, Eq, Debug)]
+#[derive(Clone, Copy, PartialEq, Eq, Debug, Error)]
+#[error("refused with {} at byte {place}, layer {}: {kind}", u8::from(*.kind), u8::from(*.layer))]
 pub struct Fault {
     pub kind: Kind,
     pub place: u64,
@@ -64,69 +64,18 @@ impl Fault {
     }
 }
 
-// The number by which a refusal is known outside the library.
 impl From<Kind> for u8 {
     ghost from_gives = { λ kind r. r ≡ kind_number kind };
 
     fn from(kind: Kind) -> u8 {
-        match kind {
-            Kind::Short => 1,
-            Kind::Foreign => 2,
-            Kind::Oversize => 3,
-            Kind::Dangling => 4,
-            Kind::Misshapen => 5,
-            Kind::BadRow => 6,
-            Kind::Closed => 7,
-            Kind::NoSection => 8,
-            Kind::Bound => 9,
-            Kind::Full => 10,
-            Kind::Small => 11,
-        }
+        kind as u8
     }
 }
 
-// The number by which a layer is known outside the library.
 impl From<Layer> for u8 {
     ghost from_gives = { λ layer r. r ≡ layer_number layer };
 
     fn from(layer: Layer) -> u8 {
-        match layer {
-            Layer::Field => 1,
-            Layer::Format => 2,
-            Layer::Pile => 3,
-            Layer::Output => 4,
-        }
+        layer as u8
     }
 }
-
-impl fmt::Display for Kind {
-    fn fmt<W: fmt::Write>(&self, f: &mut fmt::Formatter<W>) -> fmt::Result {
-        f.write_str(match self {
-            Kind::Short => "a part runs past the end",
-            Kind::Foreign => "not a file of the kind that is read",
-            Kind::Oversize => "a count or a length is above its limit",
-            Kind::Dangling => "a number names no section or symbol",
-            Kind::Misshapen => "a field has a value that is not allowed",
-            Kind::BadRow => "a row does not form, or does not belong here",
-            Kind::Closed => "the pile was swept or folded",
-            Kind::NoSection => "no such section",
-            Kind::Bound => "the name was bound before",
-            Kind::Full => "no room for another",
-            Kind::Small => "the buffer is too short",
-        })
-    }
-}
-
-impl fmt::Display for Fault {
-    fn fmt<W: fmt::Write>(&self, f: &mut fmt::Formatter<W>) -> fmt::Result {
-        let number = u8::from(self.kind);
-        let layer = u8::from(self.layer);
-        write!(
-            f,
-            "refused with {number} at byte {}, layer {layer}: {}",
-            self.place, self.kind
-        )
-    }
-}
-
-impl Error for Fault {}

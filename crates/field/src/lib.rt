@@ -26,6 +26,7 @@ pub trait Field: Sized {
     ghost onward: { (b : List ℕ) (p : ℕ) → at (drop p b) 0 ≡ at b p };
 }
 
+// Three impls of one form: no trait of the library has `from_le_bytes` with its width, and a macro may not hold ghost members.
 impl Field for u16 {
     ghost size = { 2 };
 
@@ -84,7 +85,7 @@ pub fn read<T: Field>(b: &[u8], p: u64) -> Result<T, Fault>
 }
 
 // A ULEB128 number and how many bytes it took.
-#[derive(Clone, Copy, PartialEq, Eq, Debug)]
+#[derive(Clone, Copy, PartialEq, Eq, Debug, Default)]
 pub struct Number {
     pub value: u32,
     pub taken: u8,
@@ -101,7 +102,7 @@ pub fn misshapen(first: u64) -> Fault
 pub fn none_yet() -> Number
     ensures { result ≡ none_yet }
 {
-    Number { value: 0, taken: 0 }
+    Number::default()
 }
 
 // What the digit `d` of a ULEB128 number counts, with `before` digits before it.

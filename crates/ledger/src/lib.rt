@@ -3,7 +3,7 @@
 
 #![tactic(auto)]
 
-ghost use Rattle.std.specs.Prelude.{◌≡◌, ◌<◌, ◌≤◌};
+ghost use Rattle.std.specs.Prelude.{◌≡◌, ◌<◌};
 ghost use Rattle.arrayvec.specs.ArrayVec.{array_vec_len};
 ghost use Rattle.unfolding.specs.Groups.{aimed_at};
 ghost use Rattle.unfolding.specs.Reach.{has};
@@ -18,7 +18,7 @@ use arrayvec::ArrayVec;
 use calls::Place;
 use fault::{Fault, Kind, Layer};
 use model::{Record, Relocation, Setting, Target};
-use slots::Slots;
+use slots::{Present, Slots};
 
 // An outside name that was bound, and the section that it stands for.
 #[derive(Clone, Copy, PartialEq, Eq, Debug, Default)]
@@ -32,7 +32,7 @@ pub struct Bind {
 pub struct Ledger {
     // what became of each section
     pub slots: Slots,
-    // the sections that were pinned
+    // the sections that were pinned: a mark for each number, as the slots are, since memory is fixed
     pub pins: [bool; 1024],
     // the outside names that were bound, in order
     pub binds: ArrayVec<Bind, 64>,
@@ -97,23 +97,22 @@ impl Ledger {
         self.roots.push(section);
     }
 
-    // Sweeps the sections below `n` that are there and not reached, and closes: how many are left, and how many were swept.
-    pub fn sweep(&mut self, there: &[bool; 1024], reached: &[bool; 1024], n: u16) -> (u16, u16)
-        requires { n ≤ 1024 }
-        ensures { Shut (dropped_slot there.now reached.now) (stays there.now reached.now) (drops there.now reached.now) n self.old self.new result.0 result.1 }
+    // A sweep and a fold stay two functions, since they are promised other things; their loop is one, in `slots`.
+
+    // Sweeps the sections that are there and not reached, and closes: how many are left, and how many were swept.
+    pub fn sweep(&mut self, present: &Present, reached: &[bool; 1024]) -> (u16, u16)
+        ensures { Shut (dropped_slot present.now.there reached.now) (stays present.now.there reached.now) (drops present.now.there reached.now) present.now.count self.old self.new result.0 result.1 }
     {
-        let counts = self.slots.sweep(there, reached, n);
+        let counts = self.slots.sweep(present, reached);
         self.closed = true;
         counts
     }
 
-    // Folds each section below `n` that is there into the one that leads its class, and closes: how many are left, and how many were
-    // folded.
-    pub fn fold(&mut self, there: &[bool; 1024], class: &[u16; 1024], n: u16) -> (u16, u16)
-        requires { n ≤ 1024 }
-        ensures { Shut (joined_slot there.now class.now) (leads there.now class.now) (joins there.now class.now) n self.old self.new result.0 result.1 }
+    // Folds each section that is there into the one that leads its class, and closes: how many are left, and how many were folded.
+    pub fn fold(&mut self, present: &Present, class: &[u16; 1024]) -> (u16, u16)
+        ensures { Shut (joined_slot present.now.there class.now) (leads present.now.there class.now) (joins present.now.there class.now) present.now.count self.old self.new result.0 result.1 }
     {
-        let counts = self.slots.fold(there, class, n);
+        let counts = self.slots.fold(present, class);
         self.closed = true;
         counts
     }

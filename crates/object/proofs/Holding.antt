@@ -1,5 +1,5 @@
 -- What a reader holds.
-use Rattle.std.proofs.Common.{◌≡◌, ℕ, true, false, eqb, List, [], length, replicate, is_some, None, Option, refl, ap, ◌∙◌}
+use Rattle.std.proofs.Common.{◌≡◌, ℕ, true, eqb, List, [], length, replicate, None, Option, refl, ap, ◌∙◌}
 use Rattle.std.proofs.lemmas.Bool.{or_right}
 use Rattle.std.proofs.lemmas.List.{length-replicate, get_or-replicate}
 use Rattle.std.proofs.lemmas.List.FromFn.{fill_by_all}
@@ -8,11 +8,10 @@ use Rattle.checklist.specs.Checks.{first_fault}
 use Rattle.checklist.proofs.Checks.{accepts}
 use Rattle.rules.specs.declared.Notes.{Notes}
 use Rattle.rules.specs.declared.Symbols.{Symbols}
-use Rattle.rules.specs.Notes.{Noted, part_note, parts, marks, roots}
+use Rattle.rules.specs.Notes.{Noted, part_note, parts, marks_of, roots}
 use Rattle.rules.specs.Rules.{symbols}
 use Rattle.rules.specs.Listing.{significance}
 use Rattle.rules.specs.Verdict.{checks, accepted}
-use Rattle.reading.proofs.Ending.{unlisted}
 use Rattle.model.specs.Graph.{empty}
 use Rattle.object.specs.Meaning.{meaning}
 use Rattle.object.specs.Held.{held}
@@ -30,26 +29,21 @@ no_symbols : ◌≡◌ {A = Symbols} (record { from = 0; count = 0 }) (symbols [
 unfolding half
 no_symbols = refl
 
-unsigned : false ≡ is_some (significance [])
+no_marks : None ≡ marks_of [] (significance [])
 unfolding half
-unsigned = refl
-
-no_marks : replicate 1024 false ≡ marks []
-unfolding half
-no_marks = (unlisted [] refl).1
+no_marks = refl
 
 no_roots : [] ≡ roots []
 unfolding half
 no_roots = refl
 
-pub none_noted : (b : List ℕ) (x : Notes) → b ≡ [] → x.symbols ≡ record { from = 0; count = 0 } → x.parts ≡ replicate 1024 None → x.significant ≡ false
-    → x.listed ≡ replicate 1024 false → x.roots.items ≡ [] → Noted b x
-none_noted b x e s p g m r =
+pub none_noted : (b : List ℕ) (x : Notes) → b ≡ [] → x.symbols ≡ record { from = 0; count = 0 } → x.parts ≡ replicate 1024 None → x.listed ≡ None
+    → x.roots.items ≡ [] → Noted b x
+none_noted b x e s p m r =
     rw e (record {
       symbols_right = s ∙ no_symbols;
       parts_right = p ∙ no_parts;
-      listing_right = g ∙ unsigned;
-      marks_right = m ∙ no_marks;
+      listed_right = m ∙ no_marks;
       roots_right = r ∙ no_roots;
     })
 

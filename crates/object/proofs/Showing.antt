@@ -13,11 +13,11 @@ use Rattle.elf.specs.declared.Header.{Header}
 use Rattle.elf.specs.Layout.{sections, section, present, plain, entry_at}
 use Rattle.rules.specs.Rules.{part, symbol}
 use Rattle.rules.specs.Listing.{significance, listed}
-use Rattle.rules.specs.Notes.{part_note, listed_in, Noted}
+use Rattle.rules.specs.Notes.{part_note, listed_in, marks_of, Noted}
 use Rattle.rules.specs.Listing.{listing}
 use Rattle.rules.specs.declared.Notes.{Notes}
 use Rattle.object.specs.Meaning.{flags_of, alignment_of, low, bytes_of, relocation_at, relocations_in, setting_of, body, meaning}
-use Rattle.object.specs.Held.{held, header_of, shown}
+use Rattle.object.specs.Held.{held, header_of, shown, unlisted}
 use Rattle.field.specs.Fields.{half, within, short}
 use Rattle.elf.specs.Layout.{place}
 use Rattle.rules.specs.Rules.{relocates}
@@ -65,8 +65,12 @@ shown_none b s e = go (cases_lt s (sections b)) (present (section b s)) refl
 pub part_noted : (b : List ℕ) (x : Notes) (s : ℕ) → Noted b x → s < 1024 → get_or x.parts s None ≡ part b s (sections b)
 part_noted b x s w l = ap (λ (xs : List (Option ℕ)). get_or xs s None) w.parts_right ∙ get_or-map-range_with_len (part_note b (sections b)) 0 1024 s s None l (omega arith)
 
-pub listed_noted : (b : List ℕ) (x : Notes) (s : ℕ) → Noted b x → s < 1024 → get_or x.listed s false ≡ listed b s
-listed_noted b x s w l = ap (λ (xs : List Bool). get_or xs s false) w.marks_right ∙ get_or-map-range_with_len (listed_in b (listing b)) 0 1024 s s false l (omega arith)
+listed_noted : (b : List ℕ) (x : Notes) (s : ℕ) → Noted b x → s < 1024 → unlisted x.listed s ≡ (is_some (significance b) && not (listed b s))
+listed_noted b x s w l = ap (λ (o : Option (List Bool)). unlisted o s) w.listed_right ∙ go (significance b)
+  where
+    go : (o : Option ℕ) → unlisted (marks_of b o) s ≡ (is_some o && not (listed b s))
+    go None = refl
+    go (Some a) = ap not (get_or-map-range_with_len (listed_in b (listing b)) 0 1024 s s false l (omega arith))
 
 -- byte i of a section
 byte_in : (b : List ℕ) (s i : ℕ) (h : Header) → Seen b s h → byte_of (meaning b) s i ≡ slice_get (bytes_of b h) i
@@ -197,12 +201,11 @@ record_is b s al rl st h w e1 e2 e3 =
 
 -- the setting from the notes
 pub setting_is : (b : List ℕ) (x : Notes) (s : ℕ) (h : Header) (r : Setting) → Noted b x → s < 1024 → h ≡ section b s
-    → r ≡ cond (plain h && (x.significant && not (get_or x.listed s false))) Foldable Pinned → r ≡ setting_of b s
+    → r ≡ cond (plain h && unlisted x.listed s) Foldable Pinned → r ≡ setting_of b s
 setting_is b x s h r w l e q =
     q
-    ∙ (ap (λ (y : Header). cond (plain y && (x.significant && not (get_or x.listed s false))) Foldable Pinned) e
-    ∙ (ap (λ (y : Bool). cond (plain (section b s) && (y && not (get_or x.listed s false))) Foldable Pinned) w.listing_right
-    ∙ ap (λ (y : Bool). cond (plain (section b s) && (is_some (significance b) && not y)) Foldable Pinned) (listed_noted b x s w l)))
+    ∙ (ap (λ (y : Header). cond (plain y && unlisted x.listed s) Foldable Pinned) e
+    ∙ ap (λ (y : Bool). cond (plain (section b s) && y) Foldable Pinned) (listed_noted b x s w l))
 
 -- each entry with a relocation can be told as one
 pub ready : (b : List ℕ) (s j : ℕ) (p : Header) → held b ≡ true → s < sections b → PartSeen b s p → j < p.size / 24 → Ready b (p.offset + 24 * j)

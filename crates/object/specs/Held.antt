@@ -1,5 +1,5 @@
 -- What a reader holds: no file, or one that was accepted, and its notes.
-use Rattle.std.specs.Prelude.{◌≡◌, ℕ, ◌+◌, ◌*◌, ◌^◌, ◌<◌, ◌≤◌, Bool, false, cond, ◌&&◌, ◌||◌, List, length, pos, negsuc, ◌≤ℤ◌, Some, None, Option, ◌==◌, nat_lt}
+use Rattle.std.specs.Prelude.{◌≡◌, ℕ, ◌+◌, ◌*◌, ◌^◌, ◌<◌, ◌≤◌, Bool, false, cond, not, ◌&&◌, ◌||◌, List, length, pos, negsuc, ◌≤ℤ◌, Some, None, Option, ◌==◌, nat_lt, slice_index_or}
 use Rattle.elf.specs.declared.Header.{Header}
 use Rattle.elf.specs.declared.Symbol.{Symbol}
 use Rattle.elf.specs.declared.Entry.{Entry}
@@ -19,6 +19,11 @@ header_of b (Some i) = Some (section b i)
 -- the header of section s, where it is present
 abbrev pub shown : List ℕ → ℕ → Option Header
 shown b s = cond (nat_lt s (sections b) && present (section b s)) (Some (section b s)) None
+
+-- the marks of sections are there, and section s has none
+abbrev pub unlisted : Option (List Bool) → ℕ → Bool
+unlisted None s = false
+unlisted (Some marks) s = not (slice_index_or marks s false)
 
 -- what is known of an entry and its symbol where the entry is a relocation
 pub record Told (y : Symbol) (e : Entry) : Type 0 where

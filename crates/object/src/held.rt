@@ -1,6 +1,6 @@
 // The reader of objects: what it holds, what it does, and its answers as a section graph, from the bytes and the notes on
 // them, with no search.
-ghost use Rattle.std.specs.Prelude.{◌≡◌, ◌<◌, true, false, not, ◌&&◌, length, if◌then◌else◌, Some, slice_index_or};
+ghost use Rattle.std.specs.Prelude.{◌≡◌, ◌<◌, true, ◌&&◌, length, if◌then◌else◌, Some};
 ghost use Rattle.elf.specs.Layout.{sections, section, entry_at, plain};
 ghost use Rattle.model.specs.declared.Setting.TheVariants.{Foldable, Pinned};
 ghost use Rattle.model.specs.Graph.{empty, record_of, byte_of, relocation_of, root_count_of, root_of};
@@ -10,7 +10,7 @@ ghost use Rattle.rules.specs.Rules.{part, symbol};
 ghost use Rattle.rules.specs.Notes.{roots, Noted};
 ghost use Rattle.rules.specs.Verdict.{checks, verdict};
 ghost use Rattle.object.specs.Meaning.{relocation_of_entry, relocations_in};
-ghost use Rattle.object.specs.Held.{held, header_of, shown, Told, Ready};
+ghost use Rattle.object.specs.Held.{held, header_of, shown, unlisted, Told, Ready};
 
 use arrayvec::ArrayVec;
 use elf::{Entry, Header, Symbol, read_entry, read_section, read_symbol};
@@ -45,8 +45,7 @@ impl Object {
             notes: Notes {
                 symbols: Symbols { from: 0, count: 0 },
                 parts: [None; 1024],
-                significant: false,
-                listed: [false; 1024],
+                listed: None,
                 roots: ArrayVec::new(),
             },
         }
@@ -114,9 +113,12 @@ impl Object {
     // Whether folding may join section `s`, with the header `h`, with others.
     fn setting(&self, s: u16, h: Header) -> Setting
         requires { s < sections (file_of self.now) }
-        ensures { result ≡ (if plain h && (self.now.notes.significant && not (slice_index_or self.now.notes.listed s false)) then Foldable else Pinned) }
+        ensures { result ≡ (if plain h && unlisted self.now.notes.listed s then Foldable else Pinned) }
     {
-        if h.is_plain() && self.notes.significant && !self.notes.listed[s as usize] {
+        if h.is_plain()
+            && let Some(listed) = &self.notes.listed
+            && !listed[s as usize]
+        {
             Setting::Foldable
         } else {
             Setting::Pinned

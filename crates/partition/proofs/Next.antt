@@ -4,7 +4,7 @@ use Rattle.std.specs.List.{AllByRecursion}
 use Rattle.std.proofs.lemmas.Bool.{cases_lt, cases_Bool, both_ways, cond-true, lt-ltb, eq-eqb, eqb-true, and_parts, and_from}
 use Rattle.model.specs.Graph.{Body, Graph, Present, section_of}
 use Rattle.model.specs.Laws.{Valid, LawfulRelocation}
-use Rattle.graph.specs.Bytes.{bytes_in}
+use Rattle.graph.specs.Bytes.{bytes_in, relocations_in}
 use Rattle.unfolding.specs.Depth.{Arm, unfolding_at, same_list}
 use Rattle.unfolding.specs.Telling.{look, arms_in, arm}
 use Rattle.unfolding.specs.Groups.{foldable, FoldAble}
@@ -16,7 +16,7 @@ use Rattle.unfolding.proofs.Classes.{class_itself, class_foldable, class_agrees,
 use Rattle.unfolding.proofs.Rules.{lawful_rules}
 use Rattle.unfolding.proofs.Theorems.{marks_tell}
 use Rattle.content.specs.Core.{Core, core_of}
-use Rattle.content.specs.Aims.{relocations_in, class_in, same_aim}
+use Rattle.content.specs.Aims.{class_in, same_aim}
 use Rattle.content.proofs.Arms.{arms_join, arms_split}
 use Rattle.partition.specs.declared.Base.{Base}
 use Rattle.partition.specs.Classes.{Found, base_in, same_base, Bases, class_at, Classed, Classes, joined}

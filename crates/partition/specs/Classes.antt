@@ -1,12 +1,13 @@
 -- Classes of sections at a depth, their bases, and one round.
 use Rattle.std.specs.Prelude.{◌≡◌, ℕ, suc, ◌<◌, ◌≤◌, Bool, true, false, cond, ◌&&◌, List, length, Some, None, Option, ◌==◌, slice_index, slice_index_or, unwrap_or}
 use Rattle.model.specs.Graph.{Graph, section_of}
+use Rattle.graph.specs.Bytes.{relocations_in}
 use Rattle.steps.specs.Below.{least_below}
 use Rattle.unfolding.specs.Depth.{same_list}
 use Rattle.unfolding.specs.Groups.{foldable, class_by}
 use Rattle.unfolding.specs.Sections.{rules, rounds}
 use Rattle.content.specs.Core.{core_of, same_core, digest_core}
-use Rattle.content.specs.Aims.{relocations_in, same_aim}
+use Rattle.content.specs.Aims.{same_aim}
 use Rattle.partition.specs.declared.Base.{Base}
 
 -- m is the lowest from `low` on that passes, and n if none below n does

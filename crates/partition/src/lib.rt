@@ -42,7 +42,8 @@ struct Round<'a, G: SectionGraph> {
 }
 
 // Puts into `class` for each section the lowest one that agrees with it at every depth, itself for a section that is pinned or absent,
-// and answers the rounds: the least depth that has the same groups as the next.
+// and answers the rounds: the least depth that has the same groups as the next. The caller gives the array, so that its 2 KiB are
+// written in place.
 pub fn partition<G: SectionGraph>(graph: &G, class: &mut [u16; 1024]) -> u16
     ensures classes { class.new ≡ table (rep (G.SectionGraph.graph graph.now)) 1024 }
     ensures rounds { result ≡ rounds (G.SectionGraph.graph graph.now) }
@@ -89,14 +90,6 @@ fn lowest<F: Fn(u16) -> bool>(first: u16, end: u16, passes: F) -> Option<u16>
     )
 }
 
-// The lowest number from `first` on and below `end` that passes, and `end` if none does.
-fn lowest_or_end<F: Fn(u16) -> bool>(first: u16, end: u16, passes: F) -> u16
-    requires { (t : ℕ) → first ≤ t → t < end → F.pre passes t }
-    ensures { Finds (F.post passes) first end result }
-{
-    lowest(first, end, passes).unwrap_or(end)
-}
-
 // The class of section `s` at depth 0, where `first` is the lowest foldable section.
 fn class_by_mark<G: SectionGraph>(graph: &G, first: Option<u16>, s: u16) -> u16
     ensures { result ≡ marked_class (G.SectionGraph.graph graph.now) first s }
@@ -137,7 +130,7 @@ impl<'a, G: SectionGraph> Sought<'a, G> {
     fn leader(&self) -> u16
         ensures { Found (based (G.SectionGraph.graph self.now.graph.now) self.now.bases.now self.now.section) 0 self.now.section result }
     {
-        lowest_or_end(0, self.section, |t| self.joins(t))
+        lowest(0, self.section, |t| self.joins(t)).unwrap_or(self.section)
     }
 }
 
@@ -211,6 +204,6 @@ impl<'a, G: SectionGraph> Round<'a, G> {
         ensures { Found (joined (G.SectionGraph.graph self.now.graph.now) self.now.bases.now self.now.old.now new.now s) (slice_index self.now.old.now s) s result }
     {
         let first = self.old[s as usize];
-        lowest_or_end(first, s, |t| self.joins(new, s, t))
+        lowest(first, s, |t| self.joins(new, s, t)).unwrap_or(s)
     }
 }

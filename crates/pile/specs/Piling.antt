@@ -185,9 +185,6 @@ module _ (g : Graph) (v : Valid g) (t : Ledger) (sound : Sound g t) where
       (λ r. told_fold g v t t' a b r three)
       (fold_answer g v t t' a b k ek three)
 
-  pub count_small : (n : ℕ) → n ≡ count_of (told g t).graph → n ≤ 1024
-  count_small n e = omega (arith, few g v t)
-
 -- a list of calls, one more
 
 pub run_more :

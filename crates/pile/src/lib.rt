@@ -27,9 +27,11 @@ use ledger::Ledger;
 use model::{Record, Relocation};
 use partition::partition;
 use reach::reach;
+use slots::Present;
 use std::array;
 
-// A pile: the graph below, and what was called.
+// A pile: the graph below, and what was called. That a call leaves the graph below as it was is a clause of its own, `over`, and no field
+// of `Does`: that field would need both graphs and their type, three arguments more in each contract, and `Checked` has one graph alone.
 #[derive(Drop)]
 pub struct Pile<G: SectionGraph> {
     below: G,
@@ -44,11 +46,15 @@ fn is_present<G: SectionGraph>(graph: &G, s: u16) -> bool
     graph.record_of(s).is_some()
 }
 
-// The presence of each section of a graph.
-fn presence<G: SectionGraph>(graph: &G) -> [bool; 1024]
-    ensures { result ≡ listed (present (G.SectionGraph.graph graph.now)) 1024 }
+// Which sections of a graph are present, and how many it has in all.
+fn presence<G: SectionGraph>(graph: &G) -> Present
+    ensures there { result.there ≡ listed (present (G.SectionGraph.graph graph.now)) 1024 }
+    ensures count { result.count ≡ count_of (G.SectionGraph.graph graph.now) }
 {
-    array::from_fn(|s| is_present(graph, s as u16))
+    Present {
+        there: array::from_fn(|s| is_present(graph, s as u16)),
+        count: graph.count(),
+    }
 }
 
 // A pile is a section graph again.
@@ -122,8 +128,8 @@ impl<G: SectionGraph> Pile<G> {
             .place(self.below.count(), is_present(&self.below, s), s)
     }
 
-    // Whether calls are refused, and why. A check, and what is done where it passes, have contracts of their own, so that a call that makes a
-    // wrong one of either is refused at the call.
+    // Whether calls are refused, and why. A check, what is done where it passes, and what a sweep and a fold do by marks and by classes stay
+    // functions of their own: by a rule of the project an edit of a call is to be refused at the call, and not in a proof file.
 
     fn check_bind(&self, name: u16, section: u16) -> Result<(), Fault>
         ensures { Checked (G.SectionGraph.graph self.now.below) self.now.table (Bind name section) result }
@@ -218,15 +224,14 @@ impl<G: SectionGraph> Pile<G> {
         self.drop_unmarked(&marks)
     }
 
-    // The same by marks.
+    // The same by marks. It stays apart from `join_groups`, since a sweep and a fold have other promises; their loop is one.
     fn drop_unmarked(&mut self, marks: &[bool; 1024]) -> (u16, u16)
         requires { marks.now ≡ listed (reached (told (G.SectionGraph.graph self.old.below) self.old.table).graph) 1024 }
         ensures over { self.new.below ≡ self.old.below }
         ensures does { Does (G.SectionGraph.graph self.old.below) self.old.table self.new.table Sweep (Dropped result.0 result.1) }
     {
-        let there = presence(self);
-        let n = self.count();
-        self.table.sweep(&there, marks, n)
+        let present = presence(self);
+        self.table.sweep(&present, marks)
     }
 
     // Makes one of the present foldable sections whose unfoldings agree at every depth, the lowest: how many sections are present now, how
@@ -248,9 +253,8 @@ impl<G: SectionGraph> Pile<G> {
         ensures over { self.new.below ≡ self.old.below }
         ensures does { Does (G.SectionGraph.graph self.old.below) self.old.table self.new.table Fold (Merged result.0 result.1 depth) }
     {
-        let there = presence(self);
-        let n = self.count();
-        self.table.fold(&there, class, n)
+        let present = presence(self);
+        self.table.fold(&present, class)
     }
 
     // One call told as data, and its answer.

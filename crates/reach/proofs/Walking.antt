@@ -20,7 +20,8 @@ use Rattle.unfolding.specs.Reach.{Reached, root, step, has, marked, marked_next,
 use Rattle.unfolding.proofs.Marks.{present_bound}
 use Rattle.folding.proofs.Reach.{reached_decides}
 use Rattle.folding.proofs.Both.{target_present}
-use Rattle.reach.specs.Walk.{section_at, aim_of, aims, told_count, mark_count, IsFresh, Grown, Taken}
+use Rattle.graph.specs.Bytes.{told_count}
+use Rattle.reach.specs.Walk.{section_at, aim_of, aims, mark_count, IsFresh, Grown, Taken}
 
 -- reached sections
 

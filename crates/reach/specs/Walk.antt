@@ -1,6 +1,5 @@
 -- The walk along the relocations, while it goes on.
 use Rattle.std.specs.Prelude.{◌≡◌, ℕ, ◌+◌, Bool, true, false, List, [], length, Some, None, Option, replicate, ◌⊎◌, Contains}
-use Rattle.model.specs.declared.Record.{Record}
 use Rattle.model.specs.declared.Target.{Target}
 use Rattle.model.specs.declared.Target.TheVariants.{Section, Outside}
 use Rattle.model.specs.declared.Relocation.{Relocation}
@@ -20,11 +19,6 @@ aim_of (Some r) = section_at r.target
 -- the section that relocation j of section s points at
 abbrev pub aims : Graph → ℕ → ℕ → Option ℕ
 aims g s j = aim_of (relocation_of g s j)
-
--- how many relocations a record tells, 0 of an absent section
-abbrev pub told_count : Option Record → ℕ
-told_count None = 0
-told_count (Some r) = r.relocations
 
 -- how many sections are marked
 abbrev pub mark_count : List Bool → ℕ

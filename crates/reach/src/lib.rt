@@ -6,11 +6,11 @@ ghost use Rattle.std.specs.Prelude.{◌≡◌, ℕ, ◌<◌, ◌≤◌, true, fa
 ghost use Rattle.model.specs.Graph.{root_of};
 ghost use Rattle.steps.specs.Below.{table};
 ghost use Rattle.unfolding.specs.Reach.{reached, marked};
-ghost use Rattle.reach.specs.Walk.{aim_of, told_count, aims, mark_count, IsFresh, Grown, Taken};
+ghost use Rattle.reach.specs.Walk.{aim_of, aims, mark_count, IsFresh, Grown, Taken};
 
 use arrayvec::ArrayVec;
-use graph::SectionGraph;
-use model::{Record, Relocation, Target};
+use graph::{SectionGraph, relocations_told};
+use model::{Relocation, Target};
 
 // The sections entered so far: a mark for each number, and those of them whose relocations are still to be followed.
 #[derive(Drop)]
@@ -51,13 +51,6 @@ fn aim(told: Option<Relocation>) -> Option<u16>
         Target::Section(t) => Some(t),
         Target::Outside(_) => None,
     }
-}
-
-// How many relocations a record tells, 0 of an absent section.
-fn count_of(told: Option<Record>) -> u16
-    ensures { result ≡ told_count told }
-{
-    told.map_or(0, |x| x.relocations)
 }
 
 // No section is marked.
@@ -122,7 +115,7 @@ impl<'a, G: SectionGraph> Walk<'a, G> {
         ensures grown { Grown self.old.marks self.old.pending.items self.new.marks self.new.pending.items }
         ensures taken { Taken (aims (G.SectionGraph.graph self.old.graph.now) s) self.new.marks }
     {
-        for j in 0..count_of(self.graph.record_of(s)) {
+        for j in 0..relocations_told(self.graph.record_of(s)) {
             if let Some(t) = aim(self.graph.relocation(s, j)) {
                 self.enter(t);
             }

@@ -1,8 +1,6 @@
 -- The rules one after another.
-use Rattle.std.proofs.Common.{◌≡◌, ℕ, ◌+◌, ◌*◌, ◌≤◌, Bool, true, false, ◌&&◌, eqb, leb, List, [], ◌++◌, map, length, take, drop, replicate, Some, None, Ok, Err, Option, Result, sym, refl, subst, ap, ◌∙◌, arith}
+use Rattle.std.proofs.Common.{◌≡◌, ℕ, ◌+◌, ◌*◌, ◌≤◌, Bool, true, ◌&&◌, eqb, leb, List, ◌++◌, map, length, take, drop, Some, None, Ok, Err, Option, Result, sym, refl, subst, ap, ◌∙◌, arith}
 use Rattle.std.specs.List.{range_with_len}
-use Rattle.std.proofs.lemmas.List.{length-replicate, get_or-replicate}
-use Rattle.std.proofs.lemmas.List.FromFn.{fill_by_all}
 use Rattle.std.proofs.lemmas.Bool.{and_parts, leb-true}
 use Rattle.fault.specs.declared.Fault.{Fault}
 use Rattle.field.specs.Fields.{half, long}
@@ -12,10 +10,10 @@ use Rattle.elf.specs.Layout.{sections, place}
 use Rattle.rules.specs.declared.Notes.{Notes}
 use Rattle.rules.specs.Known.{Headed, Tabled}
 use Rattle.rules.specs.Ending.{Ends}
-use Rattle.rules.specs.Notes.{listed_in, marks}
+use Rattle.rules.specs.Notes.{listed_in}
 use Rattle.rules.specs.Rules.{head_rule, identified, extent_rule, content_rule, only_rule, table_rule, relocation_rule, table, symbols, symbols_of}
 use Rattle.rules.specs.Verdict.{checks, from_extents, from_contents, from_only_table, from_table, from_relocations, from_only_listing}
-use Rattle.rules.specs.Listing.{Item, significance_kind, significance, listing, listing_of, listing_rule, items, item_checks}
+use Rattle.rules.specs.Listing.{significance_kind, significance, listing_of, listing_rule, items, item_checks}
 use Rattle.reading.proofs.Firsts.{only_is, extent_is}
 
 pub ends_err : (b : List ℕ) (cs ds : List Check) (f : Fault) → first_fault cs ≡ Some f → Ends b (cs ++ ds) (Err f)
@@ -83,14 +81,8 @@ tabled b f = record { symbols_right = refl; ends = go (table b) refl }
         in omega arith
 
 -- without an address-significance table nothing is listed
-pub unlisted : (b : List ℕ) → None ≡ significance b → (first_fault (listing_rule b) ≡ None) × (replicate 1024 false ≡ marks b)
-unlisted b e =
-    let none : listing b ≡ [] = ap (listing_of b) (sym e)
-    in (
-      ap (λ (its : List Item). first_fault (item_checks (symbols b).count its)) none,
-      fill_by_all (listed_in b []) (replicate 1024 false) 1024 false (length-replicate {A = Bool} 1024 false) (λ k h. get_or-replicate {A = Bool} 1024 k false false h)
-          ∙ ap (λ (its : List Item). map (listed_in b its) (range_with_len 0 1024)) (sym none),
-    )
+pub unlisted : (b : List ℕ) → None ≡ significance b → first_fault (listing_rule b) ≡ None
+unlisted b e = ap (λ (o : Option ℕ). first_fault (item_checks (symbols b).count (listing_of b o))) (sym e)
 
 -- what is read of an address-significance table
 abbrev pub listing_read : List ℕ → ℕ → ℕ → Result (List Bool) Fault

@@ -11,7 +11,7 @@ ghost use Rattle.elf.specs.Layout.{sections, place, section};
 ghost use Rattle.rules.specs.Ending.{Ends};
 ghost use Rattle.rules.specs.Known.{AnswersBy, Parted};
 ghost use Rattle.rules.specs.Listing.{item_checks, items, significance as significance_in, listing_rule, listing_of};
-ghost use Rattle.rules.specs.Notes.{parts, listed_in, marks, roots};
+ghost use Rattle.rules.specs.Notes.{parts, listed_in, marks_of, roots};
 ghost use Rattle.rules.specs.Verdict.{checks};
 ghost use Rattle.rules.specs.Rules.{pass_rule, extent_rule, only_rule, the_only, table as table_in, part_checks, told_part, relocation_rule, symbol_rule, table_rule, symbols, table_rule_of, symbols_of};
 
@@ -207,14 +207,15 @@ fn listing_at(table: SymbolTable, a: u16) -> Result<[bool; 1024], Fault>
 }
 
 // The address-significance table, where there is one.
-fn significance(object: Object, found: Option<u16>) -> Result<[bool; 1024], Fault>
+fn significance(object: Object, found: Option<u16>) -> Result<Option<[bool; 1024]>, Fault>
     requires { found ≡ significance_in object.table.headers.bytes.now }
-    ensures { result ≡ answer (first_fault (listing_rule object.entry.table.headers.bytes.now)) (marks object.entry.table.headers.bytes.now) }
+    ensures { result ≡ answer (first_fault (listing_rule object.entry.table.headers.bytes.now)) (marks_of object.entry.table.headers.bytes.now (significance_in object.entry.table.headers.bytes.now)) }
 {
-    match found {
-        None => Ok([false; 1024]),
-        Some(a) => listing_at(object.table, a),
-    }
+    let Some(a) = found else {
+        return Ok(None);
+    };
+    let marks = listing_at(object.table, a)?;
+    Ok(Some(marks))
 }
 
 // The roots, ascending.
@@ -248,7 +249,6 @@ pub fn examine(b: &[u8]) -> Result<Notes, Fault>
     Ok(Notes {
         symbols,
         parts,
-        significant: found.is_some(),
         listed,
         roots: roots(headers),
     })

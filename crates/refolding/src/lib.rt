@@ -50,6 +50,9 @@ fn row_length(fault: &Fault) -> usize
     write_fault(fault, &mut []).unwrap_or_else(|small| small.place as usize)
 }
 
+// This text and the next stay two functions: one over the writer needs a clause on what a call of a closure leaves in a buffer, and a
+// definition for it, which is longer than the line that each would save.
+
 // The row of a refusal.
 fn fault_text(heap: Global, fault: &Fault) -> Result<Vec<u8>, AllocError>
     ensures { IfOk result (λ v. v.items ≡ fault_row fault.now) }

@@ -63,7 +63,8 @@ impl SectionGraph for Fork {
     }
 
     fn byte(&self, s: u16, i: u16) -> Option<u8> {
-        if i == 0 { sole(s) } else { None }
+        let x = sole(s)?;
+        (i == 0).then_some(x)
     }
 
     fn relocation(&self, s: u16, j: u16) -> Option<Relocation> {

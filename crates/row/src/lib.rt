@@ -67,7 +67,8 @@ pub fn exact()
     ensures long { AsLong }
 {}
 
-// Reads the row that the text begins with. What follows the row does not matter.
+// Reads the row that the text begins with. What follows the row does not matter. What is promised here follows from the
+// contract of `row_at`, which goes by the letter and tells where the row was cut.
 pub fn read_row(text: &[u8]) -> Result<Row<'_>, Cause>
     ensures row { answer result ≡ read_row text.now }
     ensures part { Occupies result }

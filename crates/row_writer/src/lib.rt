@@ -22,6 +22,7 @@ pub enum Number {
     Signed(i64),
 }
 
+// One impl for all that goes `Into<u64>` would overlap with the one for `i64`, so each width has its own.
 impl From<u8> for Number {
     ghost from_gives = { λ n r. r ≡ Natural n };
 
@@ -184,7 +185,7 @@ pub fn write_header(sections: u16, roots: u16, out: &mut [u8]) -> Result<usize, 
     write_row(b'H', &[Number::from(sections), Number::from(roots)], out)
 }
 
-// The S row.
+// The S row. The number of a setting is the table's, and the variants stand in its order.
 pub fn write_section(number: u16, record: &Record, out: &mut [u8]) -> Result<usize, Fault>
     ensures answer { result ≡ wrote (render (section number «record».now)) out.old }
     ensures text { out.new ≡ put (render (section number «record».now)) out.old }
@@ -200,7 +201,8 @@ pub fn write_section(number: u16, record: &Record, out: &mut [u8]) -> Result<usi
     write_row(b'S', &cells, out)
 }
 
-// The kind of a target, and its number.
+// The kind of a target, and its number. The numbers are the table's and not the model's, whose crate alone could have a
+// `From` of it.
 fn target_numbers(target: Target) -> (u16, u16)
     ensures kind { result.0 ≡ target_kind target }
     ensures number { result.1 ≡ target_number target }

@@ -1,5 +1,5 @@
 -- What is noted of an object while it is checked, so that no question about it has to search.
-use Rattle.std.specs.Prelude.{◌≡◌, ℕ, Bool, List, map, is_some, filter, Option}
+use Rattle.std.specs.Prelude.{◌≡◌, ℕ, Bool, List, map, filter, Some, None, Option}
 use Rattle.std.specs.List.{range_with_len}
 use Rattle.elf.specs.Layout.{sections, section, root}
 use Rattle.rules.specs.Rules.{symbols, part}
@@ -20,6 +20,11 @@ listed_in b its s = lists b s its
 abbrev pub marks : List ℕ → List Bool
 marks b = map (listed_in b (listing b)) (range_with_len 0 1024)
 
+-- the marks are noted where there is an address-significance table
+abbrev pub marks_of : List ℕ → Option ℕ → Option (List Bool)
+marks_of b None = None
+marks_of b (Some a) = Some (marks b)
+
 abbrev pub is_root : List ℕ → ℕ → Bool
 is_root b i = root (section b i)
 
@@ -30,6 +35,5 @@ roots b = filter (is_root b) (range_with_len 0 (sections b))
 pub record Noted (b : List ℕ) (x : Notes) : Type 0 where
   pub symbols_right : x.symbols ≡ symbols b
   pub parts_right : x.parts ≡ parts b
-  pub listing_right : x.significant ≡ is_some (significance b)
-  pub marks_right : x.listed ≡ marks b
+  pub listed_right : x.listed ≡ marks_of b (significance b)
   pub roots_right : x.roots.items ≡ roots b

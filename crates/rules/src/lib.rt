@@ -32,15 +32,13 @@ pub struct Part {
     pub count: u32,
 }
 
-// What is noted of an object. `parts` has for each section the number of the section with its relocations;
-// `significant` says whether there is an address-significance table, `listed` in which sections it lists a symbol; the
-// roots ascend.
+// What is noted of an object. `parts` has for each section the number of the section with its relocations; `listed` says,
+// where there is an address-significance table, in which sections it lists a symbol; the roots ascend.
 #[derive(Drop)]
 pub struct Notes {
     pub symbols: Symbols,
     pub parts: [Option<u16>; 1024],
-    pub significant: bool,
-    pub listed: [bool; 1024],
+    pub listed: Option<[bool; 1024]>,
     pub roots: ArrayVec<u16, 1024>,
 }
 

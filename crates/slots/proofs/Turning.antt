@@ -9,7 +9,7 @@ use Rattle.calls.specs.declared.Place.{Place}
 use Rattle.calls.specs.declared.Place.TheVariants.{Swept as Nowhere}
 use Rattle.steps.specs.Below.{count_below, table}
 use Rattle.steps.proofs.Below.{table_length}
-use Rattle.steps.proofs.Count.{count_bounded, count_yes, count_no}
+use Rattle.steps.proofs.Count.{count_yes, count_no}
 use Rattle.runs.specs.State.{slot_of, slots_by, ended, followed}
 use Rattle.slots.specs.declared.Slots.{Slots}
 use Rattle.slots.specs.Turns.{stays, drops, dropped_slot, leads, joins, joined_slot, stays_by, goes_by, slot_by, sweep_rule, fold_rule, Turned}
@@ -62,13 +62,6 @@ new_more f s slots x h e =
     (table_length (λ t. f t (slot_of slots t)) s)))
 
 module _ (f : ℕ → Slot → Slot) (p q : ℕ → Bool) (n : ℕ) (old : Slots) (full : length old.list ≡ 1024) (small : n < 1024) (new : Slots) (a b : ℕ) (t : Turned f p q n old new a b) where
-  -- the counts are small
-  pub kept_small : a ≤ n
-  kept_small = rw t.kept (count_bounded p n)
-
-  pub gone_small : b ≤ n
-  gone_small = rw t.gone (count_bounded q n)
-
   none : (r : ℕ → Bool) → r n ≡ false → (c : ℕ) → c ≡ count_below r n → c ≡ count_below r (n + 1)
   none r e c h = rw (add-one n, count_no r n e) h
 

@@ -16,6 +16,14 @@ pub struct Slots {
     pub list: [Slot; 1024],
 }
 
+// Which sections are there, of those below `count`.
+#[derive(Drop)]
+pub struct Present {
+    pub there: [bool; 1024],
+    pub count: u16,
+    ghost few: { count ≤ 1024 },
+}
+
 impl Slots {
     // Nothing happened to any section.
     pub fn new() -> Slots
@@ -85,11 +93,10 @@ impl Slots {
         }
     }
 
-    // Sweeps the sections below `n` that are there and not reached: how many are left, and how many were swept.
+    // Sweeps the sections that are there and not reached: how many are left, and how many were swept.
     #[tactic(auto, using(crate::proofs::Turning::swept_by_rule))]
-    pub fn sweep(&mut self, there: &[bool; 1024], reached: &[bool; 1024], n: u16) -> (u16, u16)
-        requires { n ≤ 1024 }
-        ensures { Turned (dropped_slot there.now reached.now) (stays there.now reached.now) (drops there.now reached.now) n self.old self.new result.0 result.1 }
+    pub fn sweep(&mut self, present: &Present, reached: &[bool; 1024]) -> (u16, u16)
+        ensures { Turned (dropped_slot present.now.there reached.now) (stays present.now.there reached.now) (drops present.now.there reached.now) present.now.count self.old self.new result.0 result.1 }
     {
         let swept = |s| {
             if reached[usize::from(s)] {
@@ -98,14 +105,13 @@ impl Slots {
                 Some(Slot::Swept)
             }
         };
-        self.turn(there, n, swept)
+        self.turn(present, swept)
     }
 
-    // Folds each section below `n` that is there into the one that leads its class: how many are left, and how many were folded.
+    // Folds each section that is there into the one that leads its class: how many are left, and how many were folded.
     #[tactic(auto, using(crate::proofs::Turning::folded_by_rule))]
-    pub fn fold(&mut self, there: &[bool; 1024], class: &[u16; 1024], n: u16) -> (u16, u16)
-        requires { n ≤ 1024 }
-        ensures { Turned (joined_slot there.now class.now) (leads there.now class.now) (joins there.now class.now) n self.old self.new result.0 result.1 }
+    pub fn fold(&mut self, present: &Present, class: &[u16; 1024]) -> (u16, u16)
+        ensures { Turned (joined_slot present.now.there class.now) (leads present.now.there class.now) (joins present.now.there class.now) present.now.count self.old self.new result.0 result.1 }
     {
         let folded = |s| {
             let lead = class[usize::from(s)];
@@ -115,28 +121,22 @@ impl Slots {
                 Some(Slot::Folded(lead))
             }
         };
-        self.turn(there, n, folded)
+        self.turn(present, folded)
     }
 
-    // Gives each section below `n` that is there the slot that `choose` has for it, and leaves it where there is none: how many are left,
-    // and how many got one.
-    fn turn<F: Fn(u16) -> Option<Slot>>(
-        &mut self,
-        there: &[bool; 1024],
-        n: u16,
-        choose: F,
-    ) -> (u16, u16)
+    // Gives each section that is there the slot that `choose` has for it, and leaves it where there is none: how many are left, and how
+    // many got one.
+    fn turn<F: Fn(u16) -> Option<Slot>>(&mut self, present: &Present, choose: F) -> (u16, u16)
         ghost rule: { ℕ → Option Slot }
-        requires small { n ≤ 1024 }
         requires callable { (s : ℕ) → s < 1024 → F.pre choose s }
         requires chosen { (s : ℕ) (r : _) → s < 1024 → F.post choose s r → r ≡ rule s }
-        ensures { Turned (slot_by there.now rule) (stays_by there.now rule) (goes_by there.now rule) n self.old self.new result.0 result.1 }
+        ensures { Turned (slot_by present.now.there rule) (stays_by present.now.there rule) (goes_by present.now.there rule) present.now.count self.old self.new result.0 result.1 }
     {
         let mut left = 0;
         let mut gone = 0;
         // By number, since one slot is changed through `&mut self`, a form that was asked for.
-        for s in 0..n {
-            if there[usize::from(s)] {
+        for s in 0..present.count {
+            if present.there[usize::from(s)] {
                 match choose(s) {
                     None => left += 1,
                     Some(slot) => {

@@ -4,6 +4,7 @@ use Rattle.model.specs.declared.Setting.{Setting}
 use Rattle.model.specs.declared.Setting.TheVariants.{Foldable, Pinned}
 use Rattle.model.specs.declared.Record.{Record}
 use Rattle.model.specs.Graph.{Graph, count_of, record_of, root_count_of}
+use Rattle.graph.specs.Bytes.{told_size, told_count}
 use Rattle.summary.specs.declared.Summary.{Summary}
 
 -- the sum of f over the numbers below n
@@ -25,14 +26,6 @@ abbrev pub one_pinned : Option Record → ℕ
 one_pinned None = 0
 one_pinned (Some r) = one_if_pinned r.setting
 
-abbrev pub its_bytes : Option Record → ℕ
-its_bytes None = 0
-its_bytes (Some r) = r.size
-
-abbrev pub its_relocations : Option Record → ℕ
-its_relocations None = 0
-its_relocations (Some r) = r.relocations
-
 -- the sections with a number below n
 abbrev pub summed : Graph → ℕ → Summary
 summed g n =
@@ -40,8 +33,8 @@ summed g n =
       sections = n;
       present = sum_below (λ s. one_present (record_of g s)) n;
       pinned = sum_below (λ s. one_pinned (record_of g s)) n;
-      bytes = sum_below (λ s. its_bytes (record_of g s)) n;
-      relocations = sum_below (λ s. its_relocations (record_of g s)) n;
+      bytes = sum_below (λ s. told_size (record_of g s)) n;
+      relocations = sum_below (λ s. told_count (record_of g s)) n;
       roots = root_count_of g;
     }
 

@@ -1,5 +1,5 @@
 -- What the reader of a table finds at the places that it computes.
-use Rattle.std.specs.Prelude.{ℕ, ◌+◌, ◌-◌, ◌*◌, ◌/◌, ◌%◌, cond, List, [], length, take, drop, ℤ, pos, negsuc, Some, None, Ok, Err, Option, Result, nat_lt}
+use Rattle.std.specs.Prelude.{ℕ, ◌+◌, ◌-◌, ◌*◌, ◌/◌, ◌%◌, cond, List, [], length, take, drop, ℤ, pos, negsuc, Some, None, Ok, Err, Option, Result, unwrap_or, nat_lt}
 use Rattle.column.specs.Columns.{read_column}
 use Rattle.model.specs.declared.Record.{Record}
 use Rattle.model.specs.declared.Relocation.{Relocation}
@@ -74,15 +74,15 @@ byte_told (Some (pos n)) = cond (nat_lt n 256) (Some n) None
 byte_told (Some (negsuc n)) = None
 
 -- how many bytes a section's row tells: the number in its fourth columns
-abbrev pub size_told : Option ℤ → ℕ
-size_told None = 0
-size_told (Some (pos n)) = cond (nat_lt n 65536) n 0
-size_told (Some (negsuc n)) = 0
+abbrev pub size_told : Option ℤ → Option ℕ
+size_told None = None
+size_told (Some (pos n)) = cond (nat_lt n 65536) (Some n) None
+size_told (Some (negsuc n)) = None
 
--- byte i of a section, from its row on
+-- byte i of a section, from its row on: none where the row tells no size
 abbrev pub byte_in : List ℕ → ℕ → Option ℕ
 byte_in u i =
-    cond (nat_lt i (size_told (read_column (take 12 (drop 37 u))))) (byte_told (read_column (take 4 (drop (byte_place i) u)))) None
+    cond (nat_lt i (unwrap_or (size_told (read_column (take 12 (drop 37 u)))) 0)) (byte_told (read_column (take 4 (drop (byte_place i) u)))) None
 
 -- relocation j of a section, from its row on and by its record
 abbrev pub relocation_in : List ℕ → Option Record → ℕ → Option Relocation

@@ -1,5 +1,5 @@
 -- Every question is answered by the graph that the text tells.
-use Rattle.std.specs.Prelude.{◌≡◌, ℕ, ◌+◌, ◌-◌, ◌*◌, ◌^◌, ◌<◌, ◌≤◌, Bool, cond, not, ◌⊎◌, List, [], ◌∷◌, ◌++◌, map, length, take, drop, ℤ, pos, is_some, Some, None, Err, Option, Result, nat_lt, slice_index, slice_index_or, refl}
+use Rattle.std.specs.Prelude.{◌≡◌, ℕ, ◌+◌, ◌-◌, ◌*◌, ◌^◌, ◌<◌, ◌≤◌, Bool, cond, not, ◌⊎◌, List, [], ◌∷◌, ◌++◌, map, length, take, drop, ℤ, pos, is_some, Some, None, Err, Option, Result, unwrap_or, nat_lt, slice_index, slice_index_or, refl}
 use Rattle.std.proofs.Common.{sym, ap, subst, ◌∙◌, inl, inr, arith, zero-add}
 use Rattle.std.specs.List.{slice_get, AllByRecursion}
 use Rattle.std.proofs.lemmas.List.{append_assoc, get_or-replicate, get_or_past}
@@ -139,8 +139,8 @@ module _ (t : List ℕ) (formed : bad_row t ≡ None) where
   byte_value : (n : ℕ) → n < 256 → byte_told (Some (pos n)) ≡ Some n
   byte_value n h = ap (λ (c : Bool). cond c (Some n) None) (lt-ltb n 256 h)
 
-  size_value : (n : ℕ) → n < 2 ^ 16 → size_told (Some (pos n)) ≡ n
-  size_value n h = ap (λ (c : Bool). cond c n 0) (lt-ltb n 65536 h)
+  size_value : (n : ℕ) → n < 2 ^ 16 → unwrap_or (size_told (Some (pos n))) 0 ≡ n
+  size_value n h = ap (λ (c : Bool). unwrap_or (cond c (Some n) None) 0) (lt-ltb n 65536 h)
 
   byte_row : (s : ℕ) (b : Body) (u : List ℕ) (i : ℕ) → section_of (graph_of t) s ≡ Some b → Rows s (Some b) u → byte_in u i ≡ slice_get b.bytes i
   byte_row s b u i e h =
@@ -149,10 +149,10 @@ module _ (t : List ℕ) (formed : bad_row t ≡ None) where
       values : AllByRecursion (λ x. x < 2 ^ 8) b.bytes
       values = (laws.bodies s b e).bytes
 
-      size : size_told (read_column (take 12 (drop 37 u))) ≡ length b.bytes
+      size : unwrap_or (size_told (read_column (take 12 (drop 37 u)))) 0 ≡ length b.bytes
       size =
-          ap (λ (v : List ℕ). size_told (read_column (take 12 (drop 37 v)))) h.1
-          ∙ ap size_told (size_column s (record_in b) _ (section_ranged s b e))
+          ap (λ (v : List ℕ). unwrap_or (size_told (read_column (take 12 (drop 37 v)))) 0) h.1
+          ∙ ap (λ (z : Option ℤ). unwrap_or (size_told z) 0) (size_column s (record_in b) _ (section_ranged s b e))
           ∙ size_value (length b.bytes) (laws.bodies s b e).size
 
       go : (i < length b.bytes) ⊎ (length b.bytes ≤ i)

@@ -11,7 +11,7 @@ use model::{Record, Relocation};
 use row::{Row, read_row};
 
 // How many sections there are, and how many roots.
-#[derive(Clone, Copy)]
+#[derive(Clone, Copy, Default, PartialEq, Eq, Debug)]
 pub(crate) struct Counts {
     pub sections: u16,
     pub roots: u16,
@@ -30,10 +30,7 @@ pub(crate) fn told_counts(text: &[u8]) -> Counts
         },
     ) = read_row(text)
     else {
-        return Counts {
-            sections: 0,
-            roots: 0,
-        };
+        return Counts::default();
     };
     Counts { sections, roots }
 }
@@ -61,7 +58,7 @@ impl<'a> SectionRows<'a> {
         }
     }
 
-    // The record in the section's row.
+    // The record in the section's row. It, `relocation_at` and `root_at` are three: each names its own kind of row and field.
     pub fn record(&self) -> Option<Record>
         ensures { result ≡ record_told (read_row self.now.text.now) }
     {
@@ -81,12 +78,10 @@ impl<'a> SectionRows<'a> {
     }
 
     // How many bytes the section's row tells, without reading its other numbers.
-    fn size(&self) -> u16
+    fn size(&self) -> Option<u16>
         ensures { result ≡ size_told (read_column (take 12 (drop 37 self.now.text.now))) }
     {
-        self.column(37, 12)
-            .and_then(|number| u16::try_from(number).ok())
-            .unwrap_or(0)
+        u16::try_from(self.column(37, 12)?).ok()
     }
 
     // The byte in the four columns from a place on.
@@ -100,7 +95,7 @@ impl<'a> SectionRows<'a> {
     pub fn byte(&self, i: u16) -> Option<u8>
         ensures { result ≡ byte_in self.now.text.now i }
     {
-        if i >= self.size() {
+        if i >= self.size()? {
             return None;
         }
         let row = usize::from(i / 16);

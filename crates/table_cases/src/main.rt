@@ -35,7 +35,7 @@ fn case(rt: &HostRuntime, text: &[u8]) -> anyhow::Result<bool> {
 
 // A case as its name and its text.
 fn parts(case: &[u8]) -> (&[u8], &[u8]) {
-    match case.iter().position(|x| *x == 10) {
+    match case.iter().position(|x| *x == b'\n') {
         Some(end) => (&case[..end], &case[end + 1..]),
         None => (case, &[]),
     }
@@ -45,7 +45,7 @@ fn parts(case: &[u8]) -> (&[u8], &[u8]) {
 fn run(rt: &HostRuntime, cases: &[u8]) -> anyhow::Result<(u32, u32)> {
     let mut accepted = 0u32;
     let mut refused = 0u32;
-    // nothing stands before the first case
+    // a loop, since each case prints and may fail; nothing stands before the first
     for one in cases.split(|x| *x == 1).skip(1) {
         let (name, text) = parts(one);
         rt.stdout().write_all(name)?;

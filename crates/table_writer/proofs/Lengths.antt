@@ -1,7 +1,8 @@
 -- How long the parts of a table's text are.
-use Rattle.std.proofs.Common.{◌≡◌, ℕ, zero, suc, ◌+◌, ◌-◌, ◌*◌, ◌<◌, ◌≤◌, true, false, ◌⊎◌, List, [], ◌∷◌, length, get_or, take, drop, is_some, Some, None, Option, sym, refl, ap, ◌∙◌, inl, inr, arith}
-use Rattle.std.specs.List.{flat_map, AllByRecursion}
+use Rattle.std.proofs.Common.{◌≡◌, ℕ, zero, suc, ◌+◌, ◌-◌, ◌*◌, ◌<◌, ◌≤◌, true, false, ◌⊎◌, List, [], ◌∷◌, length, get_or, take, drop, is_some, Some, None, Option, sym, refl, ap, ◌∙◌, inl, inr, zero-add, arith}
+use Rattle.std.specs.List.{flat_map, range_with_len, sum_by, AllByRecursion}
 use Rattle.std.proofs.lemmas.List.{length-append, length-take, length-drop, drop_more, drop_all}
+use Rattle.std.proofs.lemmas.List.Sums.{sum_by-cons}
 use Rattle.std.proofs.lemmas.Bool.{cases_lt}
 use Rattle.model.specs.declared.Record.{Record}
 use Rattle.model.specs.declared.Relocation.{Relocation}
@@ -91,34 +92,34 @@ table_length g v =
 
 -- one section after another
 
-pub length_more : (bs : List (Option Body)) (s : ℕ) (o : Option Record) (r : Record)
-    → s < length bs
-    → o ≡ told_record (get_or bs s None)
-    → o ≡ Some r
-    → sections_length (drop s bs) ≡ record_length r + sections_length (drop (s + 1) bs)
-unfolding sections_length
-length_more bs s o r low e is =
-    ap sections_length (drop_more bs s None low) ∙ go (get_or bs s None) (sym e ∙ is)
-  where
-    go : (b : Option Body) → told_record b ≡ Some r → sections_length (b ∷ drop (s + 1) bs) ≡ record_length r + sections_length (drop (s + 1) bs)
-    go None h = absurd (let z : ◌≡◌ {A = ℕ} 0 1 = cc in omega arith)
-    go (Some b) h = let same : record_in b ≡ r = cc in ap (λ (x : Record). record_length x + sections_length (drop (s + 1) bs)) same
+-- the rows of the section that a record tells of, if there is one
+abbrev pub told_length : Option Record → ℕ
+told_length None = 0
+told_length (Some r) = record_length r
 
-pub length_same : (bs : List (Option Body)) (s : ℕ) (o : Option Record)
-    → s < length bs
-    → o ≡ told_record (get_or bs s None)
-    → o ≡ None
-    → sections_length (drop s bs) ≡ sections_length (drop (s + 1) bs)
-unfolding sections_length
-length_same bs s o low e is = ap sections_length (drop_more bs s None low) ∙ go (get_or bs s None) (sym e ∙ is)
-  where
-    go : (b : Option Body) → told_record b ≡ None → sections_length (b ∷ drop (s + 1) bs) ≡ sections_length (drop (s + 1) bs)
-    go None h = refl
-    go (Some b) h = absurd (let z : ◌≡◌ {A = ℕ} 0 1 = cc in omega arith)
+-- how long the rows of section s are
+abbrev pub length_at : List (Option Body) → ℕ → ℕ
+length_at bs s = told_length (told_record (get_or bs s None))
 
-pub length_all : (bs : List (Option Body)) (s : ℕ) → length bs ≤ s → sections_length (drop s bs) ≡ 0
+length_more : (bs : List (Option Body)) (s : ℕ) → s < length bs → sections_length (drop s bs) ≡ length_at bs s + sections_length (drop (s + 1) bs)
+unfolding sections_length
+length_more bs s low = ap sections_length (drop_more bs s None low) ∙ go (get_or bs s None)
+  where
+    go : (b : Option Body) → sections_length (b ∷ drop (s + 1) bs) ≡ told_length (told_record b) + sections_length (drop (s + 1) bs)
+    go None = sym (zero-add (sections_length (drop (s + 1) bs)))
+    go (Some b) = refl
+
+length_all : (bs : List (Option Body)) (s : ℕ) → length bs ≤ s → sections_length (drop s bs) ≡ 0
 unfolding sections_length
 length_all bs s h = ap sections_length (drop_all s bs h)
+
+-- the lengths of all of them, added
+pub lengths_added : (bs : List (Option Body)) (n s : ℕ) → s + n ≡ length bs → sum_by (length_at bs) (range_with_len s n) ≡ sections_length (drop s bs)
+lengths_added bs zero s e = sym (length_all bs s (omega arith))
+lengths_added bs (suc n) s e =
+    sum_by-cons (length_at bs) s (range_with_len (s + 1) n)
+    ∙ ap (λ x. length_at bs s + x) (lengths_added bs n (s + 1) (omega arith))
+    ∙ sym (length_more bs s (omega arith))
 
 -- how many sections are present
 

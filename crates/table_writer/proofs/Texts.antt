@@ -15,7 +15,8 @@ use Rattle.model.specs.Graph.{Body, Graph, record_in, told_record, told_byte, to
 use Rattle.row.specs.Entry.{Entry, header, section, bytes, relocation, root, end, render}
 use Rattle.layout.specs.Layout.{with_bytes, with_relocations, with_section, with_sections, with_roots, present_count, text_of}
 use Rattle.layout.proofs.Only.{with_bytes_some}
-use Rattle.table_writer.specs.Texts.{bytes_in, relocations_in, byte_row, relocation_row, root_row, bytes_text, relocations_text, section_text, sections_text, roots_text}
+use Rattle.graph.specs.Bytes.{bytes_in, relocations_in}
+use Rattle.table_writer.specs.Texts.{byte_row, relocation_row, root_row, bytes_text, relocations_text, section_text, sections_text, roots_text}
 use Rattle.table_writer.specs.Writes.{pieces}
 use Rattle.table_writer.proofs.Writing.{in_pieces}
 

@@ -6,7 +6,7 @@ use Rattle.std.proofs.lemmas.List.{append-nil, length-append, length-drop}
 use Rattle.std.proofs.lemmas.Slice.{between_to_end}
 use Rattle.std.proofs.lemmas.Bool.{cases_lt}
 use Rattle.fault.specs.declared.Fault.{Fault}
-use Rattle.row_writer.specs.Writing.{wrote, over, put, put_at}
+use Rattle.row_writer.specs.Writing.{small, wrote, over, put, put_at}
 use Rattle.row_writer.proofs.Puts.{wrote_fits, wrote_short, put_fits, put_short, length_over, put_at_start, put_at_put_at, put_lent}
 use Rattle.table_writer.specs.Writes.{Writes, pieces}
 
@@ -28,7 +28,21 @@ row_written row old new answer e p =
     kept (inl short) = ap length (p ∙ put_short row old short)
     kept (inr room) = ap length (p ∙ put_fits row old room) ∙ length_over row old room
 
--- the same, by what it answers
+-- what is answered of a text, and what stands in the buffer, where there is no room for it and where there is
+
+pub refused_short : (text b : List ℕ) (needed : ℕ) → needed ≡ length text → length b < needed → wrote text b ≡ Err (small needed)
+refused_short text b needed e h = wrote_short text b (omega arith) ∙ ap (λ n. Err (small n)) (sym e)
+
+pub kept_short : (text b : List ℕ) (needed : ℕ) → needed ≡ length text → length b < needed → put text b ≡ b
+kept_short text b needed e h = put_short text b (omega arith)
+
+pub answered : (text old new : List ℕ) (answer : Result ℕ Fault) → Writes text old new answer → length text ≤ length old → answer ≡ wrote text old
+answered text old new answer w room = w.long room ∙ sym (wrote_fits text old room)
+
+pub stands : (text old new : List ℕ) (answer : Result ℕ Fault) → Writes text old new answer → length text ≤ length old → new ≡ put text old
+stands text old new answer w room = w.put room ∙ sym (put_fits text old room)
+
+-- what the writer of a row writes, by what it answers
 
 pub row_ok : {row old new : List ℕ} {r : Result ℕ Fault} {n : ℕ} → r ≡ wrote row old → new ≡ put row old → r ≡ Ok n → Writes row old new (Ok n)
 row_ok {row} {old} {new} {r} {n} e p k = subst (Writes row old new) k (row_written row old new r e p)

@@ -7,15 +7,6 @@ use Rattle.model.specs.Graph.{Body}
 use Rattle.row.specs.Entry.{render, bytes, relocation, root}
 use Rattle.layout.specs.Layout.{with_bytes, with_relocations, with_section, with_sections, with_roots, bytes_length}
 
--- the bytes of a section, and its relocations: an absent one has none
-abbrev pub bytes_in : Option Body → List ℕ
-bytes_in None = []
-bytes_in (Some b) = b.bytes
-
-abbrev pub relocations_in : Option Body → List Relocation
-relocations_in None = []
-relocations_in (Some b) = b.relocations
-
 -- the row of the sixteen bytes from 16 * k on, or of those that are left
 abbrev pub byte_row : List ℕ → ℕ → List ℕ
 byte_row bs k = render (bytes (take 16 (drop (16 * k) bs)))

@@ -7,7 +7,8 @@ ghost use Rattle.std.specs.Borrow.{MutBor};
 ghost use Rattle.model.specs.Graph.{section_of, relocation_of, root_of, root_count_of};
 ghost use Rattle.row_writer.specs.Writing.{wrote, put};
 ghost use Rattle.layout.specs.Layout.{text_of, present_count};
-ghost use Rattle.table_writer.specs.Texts.{bytes_in, relocations_in, bytes_text, relocations_text, section_text, sections_text, roots_text, record_length, byte_row, relocation_row, root_row};
+ghost use Rattle.graph.specs.Bytes.{bytes_in, relocations_in};
+ghost use Rattle.table_writer.specs.Texts.{bytes_text, relocations_text, section_text, sections_text, roots_text, record_length, byte_row, relocation_row, root_row};
 ghost use Rattle.table_writer.specs.Writes.{Writes, pieces, EachWrites};
 
 use fault::{Fault, Kind, Layer};
@@ -33,14 +34,11 @@ fn sections_length<G: SectionGraph>(graph: &G) -> usize
     ensures table { result + (14 * root_count_of (G.SectionGraph.graph graph.now) + 40) ≡ length (text_of (G.SectionGraph.graph graph.now)) }
     ensures few { result ≤ 5120000000 }
 {
-    // a `for`: what bounds the sum is the loop's invariant, and a chain's `sum` asks for the bound beforehand
-    let mut sum = 0;
-    for s in 0..graph.count() {
-        if let Some(record) = graph.record_of(s) {
-            sum += section_length(&record);
-        }
-    }
-    sum
+    (0..graph.count())
+        .map(|s| graph
+            .record_of(s)
+            .map_or(0, |record| section_length(&record)))
+        .sum()
 }
 
 // How long the table of a section graph is. Neither bytes nor relocations are asked for.
@@ -65,7 +63,7 @@ fn present<G: SectionGraph>(graph: &G) -> u16
     count
 }
 
-// Writes the pieces of a text, each behind the last.
+// Writes the pieces of a text, each behind the last. A `for`: the writers take the part where the last row ended.
 fn write_each<F: Fn(u16, &mut [u8]) -> Result<usize, Fault>>(
     count: u16,
     out: &mut [u8],
@@ -81,6 +79,8 @@ fn write_each<F: Fn(u16, &mut [u8]) -> Result<usize, Fault>>(
     }
     Ok(at)
 }
+
+// `graph`, a number and `out` are parameters of each writer below, and no struct: each takes another part of the buffer.
 
 // Writes the row of the sixteen bytes of section `s` from `16 * k` on, or of those that are left. There are `size`.
 fn write_byte_row<G: SectionGraph>(
@@ -197,24 +197,17 @@ fn write_rows<G: SectionGraph>(graph: &G, out: &mut [u8]) -> Result<usize, Fault
     Ok(at)
 }
 
-// Writes a table whose length is known, or refuses a buffer that is shorter.
-fn write_within<G: SectionGraph>(graph: &G, needed: usize, out: &mut [u8]) -> Result<usize, Fault>
-    requires { needed ≡ length (text_of (G.SectionGraph.graph graph.now)) }
-    ensures answer { result ≡ wrote (text_of (G.SectionGraph.graph graph.now)) out.old }
-    ensures text { out.new ≡ put (text_of (G.SectionGraph.graph graph.now)) out.old }
-{
-    if out.len() < needed {
-        return Err(Fault::new(Kind::Small, needed as u64, Layer::Output));
-    }
-    write_rows(graph, out)
-}
-
 // Writes the table of a section graph over the front of the buffer, and answers how long it is. What stands behind it in
 // the buffer stays. A buffer that is too short is refused with the length needed before anything is written.
+#[tactic(auto, using(crate::proofs::Writing::refused_short, crate::proofs::Writing::kept_short, crate::proofs::Writing::answered, crate::proofs::Writing::stands))]
 pub fn write_table<G: SectionGraph>(graph: &G, out: &mut [u8]) -> Result<usize, Fault>
     ensures answer { result ≡ wrote (text_of (G.SectionGraph.graph graph.now)) out.old }
     ensures text { out.new ≡ put (text_of (G.SectionGraph.graph graph.now)) out.old }
 {
     let needed = table_length(graph);
-    write_within(graph, needed, out)
+    // the test that the writer of a row makes of its row: a function for the two would be no shorter
+    if out.len() < needed {
+        return Err(Fault::new(Kind::Small, needed as u64, Layer::Output));
+    }
+    write_rows(graph, out)
 }

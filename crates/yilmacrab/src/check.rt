@@ -2,11 +2,11 @@
 use crate::graphs::{describe, is_object, load};
 use crate::input::{read_object, read_table};
 use crate::options::Options;
-use crate::refusal::accepted;
+use crate::output::table_text;
 use anyhow::ensure;
 use graph::SectionGraph;
 use table::Table;
-use table_writer::{table_length, write_table};
+use table_writer::table_length;
 
 fn tell<G: SectionGraph>(rt: &HostRuntime, kind: &str, graph: &G) -> anyhow::Result<()> {
     let description = describe(rt.alloc(), graph)?;
@@ -15,13 +15,12 @@ fn tell<G: SectionGraph>(rt: &HostRuntime, kind: &str, graph: &G) -> anyhow::Res
 }
 
 fn compare(rt: &HostRuntime, table: &Table) -> anyhow::Result<()> {
-    let mut again = vec![in rt.alloc(); 0u8; table_length(table)]?;
-    let written = accepted(rt, write_table(table, again.as_mut_slice()))?;
+    let again = table_text(rt, table)?;
     ensure!(
         again.as_slice() == table.text(),
         "written again, the table is another"
     );
-    println!(rt; "written again: {written} bytes, the same")?;
+    println!(rt; "written again: {} bytes, the same", again.len())?;
     Ok(())
 }
 

@@ -3,11 +3,13 @@
 use field::read;
 use std::io;
 
+// The format's own numbers of kinds; they are open, so no enum holds them.
 const SIGNIFICANT: u32 = 0x6fff4c03;
 
 const SYMBOLS: u32 = 2;
 
-// A field at `place` of section header `i`; none where it runs past the end.
+// A field at `place` of section header `i`; none where it runs past the end. No `read_section`: of a header that is cut off, the
+// fields that are there count too.
 fn header_word(file: &[u8], table: u64, i: u16, place: u64) -> Option<u32> {
     let from = table.checked_add(64 * u64::from(i))?.checked_add(place)?;
     read(file, from).ok()

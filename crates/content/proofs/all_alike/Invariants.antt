@@ -3,7 +3,7 @@ use Rattle.model.specs.declared.Relocation.{Relocation}
 use Rattle.model.specs.Graph.{section_of}
 use Rattle.unfolding.specs.Depth.{same_list}
 use Rattle.content.specs.Core.{Computes}
-use Rattle.content.specs.Aims.{relocations_in}
+use Rattle.graph.specs.Bytes.{relocations_in}
 use Rattle.content.proofs.all_alike.Given as goal
 
 abbrev pub invariant-loop-j : goal.invariant-loop-j

@@ -1,7 +1,7 @@
 use Rattle.std.proofs.Common.{ℕ, ◌+◌, ◌≤◌, map, drop, sym, ap, ◌∙◌, arith}
 use Rattle.model.specs.Graph.{section_of, told_record}
-use Rattle.content.specs.Core.{told_count, bare, mixed_arms}
-use Rattle.content.specs.Aims.{relocations_in}
+use Rattle.content.specs.Core.{bare, mixed_arms}
+use Rattle.graph.specs.Bytes.{relocations_in, told_count}
 use Rattle.content.proofs.Cores.{digest_some, digest_none, digest_end}
 use Rattle.content.proofs.content_digest.Goals as goal
 use Rattle.content.proofs.content_digest.Goals.{in-Some, in_default}
@@ -22,6 +22,6 @@ loop-j-preserved g c =
 pub returns : goal.returns
 returns g c =
     let o = section_of (g.G.SectionGraph.graph c.args.graph.now) c.args.s in
-    let count = c.count_of-j-end.ensures ∙ ap told_count c.record_of-told.ensures in
+    let count = c.relocations_told-j-end.ensures ∙ ap told_count c.record_of-told.ensures in
     let past : told_count (told_record o) ≤ c.loop-j.j = omega arith in
     sym (digest_end o c.loop-j.digest c.loop-j.j past) ∙ c.loop-j.invariant

@@ -1,7 +1,7 @@
 use Rattle.std.proofs.Common.{◌≡◌, map, drop}
 use Rattle.model.specs.Graph.{section_of}
 use Rattle.content.specs.Core.{bare, mixed_arms, core_of, digest_core}
-use Rattle.content.specs.Aims.{relocations_in}
+use Rattle.graph.specs.Bytes.{relocations_in}
 use Rattle.content.proofs.content_digest.Given as goal
 
 abbrev pub invariant-loop-j : goal.invariant-loop-j

@@ -1,12 +1,12 @@
-use Rattle.std.proofs.Common.{◌∙◌, is_some, length, Ok, Err, sym, ap, subst, rules}
+use Rattle.std.proofs.Common.{length, Ok, Err, sym, subst, rules}
 use Rattle.std.proofs.lemmas.Result.{err_from_is_err_and}
 use Rattle.checklist.specs.Checks.{first_fault, each}
 use Rattle.checklist.proofs.Checks.{ok_none, err_some}
 use Rattle.elf.specs.Layout.{sections}
 use Rattle.rules.specs.Known.{Tabled}
 use Rattle.rules.specs.Rules.{extent_checks, content_checks, extent_rule, content_rule, only_rule, the_only, table_rule, symbols, relocation_rule}
-use Rattle.rules.specs.Listing.{significance_kind, listing_rule}
-use Rattle.rules.specs.Notes.{parts, marks}
+use Rattle.rules.specs.Listing.{significance_kind, significance, listing_rule}
+use Rattle.rules.specs.Notes.{parts, marks_of}
 use Rattle.rules.specs.Verdict.{from_contents, from_only_table, from_table, from_relocations, from_only_listing}
 use Rattle.reading.proofs.Ending.{ends_err, returned, after_extents, after_contents, after_only_table, after_table, after_relocations, after_only_listing, tabled}
 use Rattle.reading.proofs.examine.Goals as goal
@@ -113,7 +113,7 @@ returns-in_err-listed c =
     in let single = ok_none (first_fault (each (only_rule significance_kind hb) (sections hb))) c.in_ok-found.found (the_only significance_kind hb) c.in_ok-found.ensures
     in rw (p.1, p.2) (returned c.args.b.now hb (Err f) c.in_ok-headers.ensures.1 c.in_ok-headers.ensures.0
     (after_only_listing hb (Err f) extents.0 contents.0 alone.0 entries.0 related.0 single.0
-    (err_some (first_fault (listing_rule hb)) f (marks hb) c.in_err-listed.ensures)))
+    (err_some (first_fault (listing_rule hb)) f (marks_of hb (significance hb)) c.in_err-listed.ensures)))
 
 pub returns : goal.returns
 returns c =
@@ -124,15 +124,14 @@ returns c =
     in let entries = ok_none (first_fault (table_rule hb)) c.in_ok-symbols.symbols (symbols hb) c.in_ok-symbols.ensures
     in let related = ok_none (first_fault (each (relocation_rule hb) (sections hb))) c.in_ok-parts.parts (parts hb) c.in_ok-parts.ensures
     in let single = ok_none (first_fault (each (only_rule significance_kind hb) (sections hb))) c.in_ok-found.found (the_only significance_kind hb) c.in_ok-found.ensures
-    in let listed = ok_none (first_fault (listing_rule hb)) c.in_ok-listed.listed (marks hb) c.in_ok-listed.ensures
+    in let listed = ok_none (first_fault (listing_rule hb)) c.in_ok-listed.listed (marks_of hb (significance hb)) c.in_ok-listed.ensures
     in returned c.args.b.now hb (Ok _) c.in_ok-headers.ensures.1 c.in_ok-headers.ensures.0
     (after_only_listing hb (Ok _) extents.0 contents.0 alone.0 entries.0 related.0 single.0 (
       listed.0,
       record {
         symbols_right = entries.1;
         parts_right = related.1;
-        listing_right = c.is_some.ensures ∙ ap is_some single.1;
-        marks_right = listed.1;
+        listed_right = listed.1;
         roots_right = c.roots.ensures;
       },
     ))

@@ -2,7 +2,7 @@
 ghost use Rattle.std.specs.Prelude.{◌≡◌, None, drop, slice_index_or};
 ghost use Rattle.std.specs.Option.{option_map};
 ghost use Rattle.model.specs.Graph.{Graph, empty};
-ghost use Rattle.layout.specs.Reading.{fault_of, dangling_at};
+ghost use Rattle.layout.specs.Reading.{fault_of};
 ghost use Rattle.layout.specs.Verdict.{Verdict};
 ghost use Rattle.table.specs.Held.{outcome, examined};
 ghost use Rattle.table.specs.Meaning.{text_held, graph_held, text_after};
@@ -16,21 +16,15 @@ use graph::SectionGraph;
 use model::{Record, Relocation};
 use std::alloc::Global;
 
-fn dangling_row(at: usize) -> Fault
-    ensures { result ≡ dangling_at at }
-{
-    Fault::new(Kind::Dangling, at as u64, Layer::Format)
-}
-
 // The notes on a text that is accepted, or its refusal.
 fn examine(text: &[u8]) -> Result<Starts, Fault>
     ensures { result ≡ examined text.now }
 {
     let starts = scan(text)?;
-    match dangling(text, &starts) {
-        Some(at) => Err(dangling_row(at)),
-        None => Ok(starts),
+    if let Some(at) = dangling(text, &starts) {
+        return Err(Fault::new(Kind::Dangling, at as u64, Layer::Format));
     }
+    Ok(starts)
 }
 
 impl Table {

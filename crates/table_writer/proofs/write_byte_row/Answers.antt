@@ -2,7 +2,7 @@ use Rattle.std.proofs.Common.{◌≡◌, ◌+◌, ◌*◌, unwrap_or, subst, ari
 use Rattle.std.specs.List.{slice_get}
 use Rattle.model.specs.Graph.{section_of}
 use Rattle.row.specs.Entry.{render, bytes}
-use Rattle.table_writer.specs.Texts.{bytes_in}
+use Rattle.graph.specs.Bytes.{bytes_in}
 use Rattle.table_writer.specs.Writes.{Writes}
 use Rattle.table_writer.proofs.Writing.{row_written}
 use Rattle.table_writer.proofs.Texts.{row_gathered, each_made}

@@ -1,6 +1,7 @@
 use Rattle.std.proofs.Common.{subst, arith, rules}
 use Rattle.model.specs.Graph.{section_of}
-use Rattle.table_writer.specs.Texts.{bytes_in, byte_row}
+use Rattle.graph.specs.Bytes.{bytes_in}
+use Rattle.table_writer.specs.Texts.{byte_row}
 use Rattle.table_writer.specs.Writes.{Writes}
 use Rattle.table_writer.proofs.Texts.{bytes_pieces}
 use Rattle.table_writer.proofs.write_byte_rows.Goals as goal

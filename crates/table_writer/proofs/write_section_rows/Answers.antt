@@ -2,7 +2,8 @@ use Rattle.std.proofs.Common.{◌+◌, ◌≤◌, ◌++◌, length, sym, ◌∙�
 use Rattle.std.proofs.lemmas.Result.{err_from_is_err_and}
 use Rattle.model.specs.Graph.{section_of}
 use Rattle.row.specs.Entry.{render, section}
-use Rattle.table_writer.specs.Texts.{bytes_in, relocations_in, bytes_text, relocations_text}
+use Rattle.graph.specs.Bytes.{bytes_in, relocations_in}
+use Rattle.table_writer.specs.Texts.{bytes_text, relocations_text}
 use Rattle.table_writer.proofs.Writing.{none_written, row_ok, row_err, restated, both_ok, both_err, both_end, first_ends, stopped_before}
 use Rattle.table_writer.proofs.Texts.{section_none, section_told}
 use Rattle.table_writer.proofs.write_section_rows.Goals as goal

@@ -22,6 +22,6 @@ loop-i-preserved g c =
 pub returns : goal.returns
 returns g c =
     let o = section_of (g.Self.SectionGraph.graph c.args.self.now) c.args.s in
-    let size = c.size_of-i-end.ensures ∙ ap told_size c.record_of.ensures in
+    let size = c.size_told-i-end.ensures ∙ ap told_size c.record_of.ensures in
     let past : told_size (told_record o) ≤ c.loop-i.i = omega arith in
     sym (digest_end o c.loop-i.digest c.loop-i.i past) ∙ c.loop-i.invariant

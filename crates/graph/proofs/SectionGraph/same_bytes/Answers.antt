@@ -10,9 +10,9 @@ returns g c = (
       bytes_same
       (section_of (g.Self.SectionGraph.graph c.args.self.now) c.args.s)
       (section_of (g.Self.SectionGraph.graph c.args.self.now) c.args.t)
-      c.size_of-size.result
-      (sym (c.size_of-size.ensures ∙ ap told_size c.record_of.ensures))
-      (sym (c.if-size-size_of.false ∙ (c.size_of.ensures ∙ ap told_size c.record_of-2.ensures)))
+      c.size_told-size.result
+      (sym (c.size_told-size.ensures ∙ ap told_size c.record_of.ensures))
+      (sym (c.if-size-size_told.false ∙ (c.size_told.ensures ∙ ap told_size c.record_of-2.ensures)))
       (λ i l. c.loop-i.invariant i (omega arith)),
   λ _. refl,
 )

@@ -6,6 +6,7 @@ use Rattle.partition.proofs.Round.leader.Goals as goal
 pub returns : goal.returns
 returns g c =
     let round = c.args.self.now in
-    found_from (joined (g.G.SectionGraph.graph round.graph.now) round.bases.now round.old.now c.args.new.now c.args.s) _ (get_or round.old.now c.args.s 0) c.args.s c.lowest_or_end.result
+    rw c.unwrap_or.ensures
+    (found_from (joined (g.G.SectionGraph.graph round.graph.now) round.bases.now round.old.now c.args.new.now c.args.s) _ (get_or round.old.now c.args.s 0) c.args.s _
     (λ t b l h k. search rules)
-    c.lowest_or_end.ensures
+    c.lowest.ensures.lowest)

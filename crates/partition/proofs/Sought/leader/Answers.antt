@@ -6,6 +6,7 @@ use Rattle.partition.proofs.Sought.leader.Goals as goal
 pub returns : goal.returns
 returns g c =
     let sought = c.args.self.now in
-    found_from (based (g.G.SectionGraph.graph sought.graph.now) sought.bases.now sought.section) _ 0 sought.section c.lowest_or_end.result
+    rw c.unwrap_or.ensures
+    (found_from (based (g.G.SectionGraph.graph sought.graph.now) sought.bases.now sought.section) _ 0 sought.section _
     (λ t b l h k. search rules)
-    c.lowest_or_end.ensures
+    c.lowest.ensures.lowest)

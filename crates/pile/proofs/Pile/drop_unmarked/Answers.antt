@@ -1,14 +1,6 @@
 use Rattle.std.proofs.Common.{refl}
-use Rattle.pile.specs.Piling.{count_small, sweep_done}
+use Rattle.pile.specs.Piling.{sweep_done}
 use Rattle.pile.proofs.Pile.drop_unmarked.Goals as goal
-
-pub sweep-requires : goal.sweep-requires
-sweep-requires g c =
-    let x = g.G.SectionGraph.graph c.args.self.now.below in
-    let v = g.met.G.SectionGraph.valid c.args.self.now.below in
-    let t = c.args.self.now.table in
-    let sound = c.args.self.now.sound in
-    count_small x v t sound c.count-n.result c.count-n.ensures
 
 pub invariant_of-self : goal.invariant_of-self
 invariant_of-self g c =
@@ -17,13 +9,13 @@ invariant_of-self g c =
     let t = c.args.self.now.table in
     let sound = c.args.self.now.sound in
     let d =
-    sweep_done x v t sound c.presence-there.result c.args.marks.now c.count-n.result
+    sweep_done x v t sound c.presence-present.result.there c.args.marks.now c.presence-present.result.count
     c.sweep.new.self
     c.sweep.result.0
     c.sweep.result.1
-    c.presence-there.ensures
+    c.presence-present.ensures.there
     c.requires
-    c.count-n.ensures
+    c.presence-present.ensures.count
     c.sweep.ensures in
     record { sound = d.sound }
 
@@ -34,12 +26,12 @@ returns g c =
     let t = c.args.self.now.table in
     let sound = c.args.self.now.sound in
     let d =
-    sweep_done x v t sound c.presence-there.result c.args.marks.now c.count-n.result
+    sweep_done x v t sound c.presence-present.result.there c.args.marks.now c.presence-present.result.count
     c.sweep.new.self
     c.sweep.result.0
     c.sweep.result.1
-    c.presence-there.ensures
+    c.presence-present.ensures.there
     c.requires
-    c.count-n.ensures
+    c.presence-present.ensures.count
     c.sweep.ensures in
     record { over = refl; does = d.does }

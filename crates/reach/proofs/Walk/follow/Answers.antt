@@ -1,5 +1,6 @@
 use Rattle.std.proofs.Common.{sym, ap, ◌∙◌, arith}
-use Rattle.reach.specs.Walk.{aims, aim_of, told_count}
+use Rattle.graph.specs.Bytes.{told_count}
+use Rattle.reach.specs.Walk.{aims, aim_of}
 use Rattle.reach.proofs.Walking.{aim_reached, grown_on, taken_more, named, unnamed, taken_all, aims_past}
 use Rattle.reach.proofs.Walk.follow.Goals as goal
 use Rattle.reach.proofs.Walk.follow.Goals.{in-Some, in_default}
@@ -39,5 +40,5 @@ loop-j-preserved g c =
 pub returns-clause-taken : goal.returns-clause-taken
 returns-clause-taken g c =
     let x = g.G.SectionGraph.graph c.args.self.now.graph.now in
-    let count = c.count_of-j-end.ensures ∙ ap told_count c.record_of.ensures in
+    let count = c.relocations_told-j-end.ensures ∙ ap told_count c.record_of.ensures in
     taken_all (aims x c.args.s) c.loop-j.self.marks c.loop-j.j (aims_past x c.args.s c.loop-j.j (omega arith)) c.loop-j.invariant.2

@@ -6,4 +6,4 @@ abbrev pub invariant-loop-s : goal.invariant-loop-s
 invariant-loop-s g l =
     (l.left ≤ l.s)
     × (l.gone ≤ l.s)
-    × Turned (slot_by l.there g.rule) (stays_by l.there g.rule) (goes_by l.there g.rule) l.s l.initial.self l.self l.left l.gone
+    × Turned (slot_by l.present.there g.rule) (stays_by l.present.there g.rule) (goes_by l.present.there g.rule) l.s l.initial.self l.self l.left l.gone

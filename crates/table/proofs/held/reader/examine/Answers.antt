@@ -10,9 +10,9 @@ returns-in_err-starts c =
 
 pub returns-in-Some : goal.returns-in-Some
 returns-in-Some c =
-    ap Err c.dangling_row.ensures
+    ap Err c.new.ensures
     ∙ sym (examined_loose c.args.text.now c.in_ok-starts.starts _ (sym c.scan.ensures ∙ c.in_ok-starts.was) (sym c.in-Some.is ∙ c.dangling.ensures))
 
-pub returns-in-None : goal.returns-in-None
-returns-in-None c =
-    sym (examined_loose c.args.text.now c.in_ok-starts.starts _ (sym c.scan.ensures ∙ c.in_ok-starts.was) (sym c.in-None.is ∙ c.dangling.ensures))
+pub returns : goal.returns
+returns c =
+    sym (examined_loose c.args.text.now c.in_ok-starts.starts _ (sym c.scan.ensures ∙ c.in_ok-starts.was) (sym c.in_default.is ∙ c.dangling.ensures))
