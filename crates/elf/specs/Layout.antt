@@ -1,6 +1,7 @@
 -- Where the parts of an ELF64 object stand, and what their fields say. What lies past the end reads as 0.
-use Rattle.std.specs.Prelude.{ℕ, zero, suc, ◌+◌, ◌*◌, ◌/◌, ◌%◌, ◌^◌, Bool, false, not, ◌&&◌, ◌||◌, List, ◌==◌, bit_and}
+use Rattle.std.specs.Prelude.{ℕ, ◌+◌, ◌*◌, ◌/◌, ◌%◌, ◌^◌, Bool, not, ◌&&◌, ◌||◌, List, ◌==◌, bit_and}
 use Rattle.field.specs.Fields.{half, word, long, signed}
+use Rattle.model.specs.Laws.{is_alignment}
 use Rattle.elf.specs.declared.Header.{Header}
 use Rattle.elf.specs.declared.Symbol.{Symbol}
 use Rattle.elf.specs.declared.Entry.{Entry}
@@ -63,14 +64,9 @@ present h = has h.flags 2 && not (apart h.kind)
 abbrev pub outside : ℕ → Bool
 outside s = s == 0 || (s == 0xfff1 || s == 0xfff2)
 
--- a power of two below 2^k
-abbrev pub power_below : ℕ → ℕ → Bool
-power_below a zero = false
-power_below a (suc k) = power_below a k || a == 2 ^ k
-
 -- an alignment that is allowed: 0, or a power of two up to 65,536
 abbrev pub aligned : ℕ → Bool
-aligned a = a == 0 || power_below a 17
+aligned a = a == 0 || is_alignment a
 
 -- a root: kept for what it is
 abbrev pub root : Header → Bool

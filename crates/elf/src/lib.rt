@@ -8,6 +8,7 @@ ghost use Rattle.elf.specs.Layout.{header_at, symbol_at, entry_at, place, sectio
 
 use fault::Fault;
 use field::read;
+use model::is_alignment;
 
 // What is read of a section header; `stride` is the size of an entry, `kind` the type.
 #[derive(Clone, Copy, PartialEq, Eq, Debug)]
@@ -138,9 +139,8 @@ pub fn read_section(b: &[u8], i: u16) -> Result<Header, Fault>
 }
 
 // Whether an alignment is allowed.
-#[tactic(auto, using(crate::proofs::Powers::power_is, crate::proofs::Powers::no_power))]
 pub fn aligned(a: u64) -> bool
     ensures { result ≡ aligned_by a }
 {
-    a == 0 || a <= 65536 && a.is_power_of_two()
+    a == 0 || is_alignment(a)
 }

@@ -1,5 +1,5 @@
 -- The laws that every section graph keeps.
-use Rattle.std.specs.Prelude.{◌≡◌, ℕ, ◌^◌, ◌<◌, ◌≤◌, length, ℤ, pos, negsuc, ◌≤ℤ◌, Some}
+use Rattle.std.specs.Prelude.{◌≡◌, ℕ, zero, suc, ◌^◌, ◌<◌, ◌≤◌, Bool, true, false, cond, length, ℤ, pos, negsuc, ◌≤ℤ◌, Some, ◌==◌}
 use Rattle.std.specs.List.{AllByRecursion}
 use Rattle.model.specs.declared.Target.{Target}
 use Rattle.model.specs.declared.Target.TheVariants.{Section, Outside}
@@ -9,6 +9,15 @@ use Rattle.model.specs.Graph.{Body, Graph, Present, section_of}
 -- a power of two from 1 to 65,536
 abbrev pub Alignment : ℕ → Type 0
 Alignment a = (k : ℕ) × (k ≤ 16) × (a ≡ 2 ^ k)
+
+-- a power of two, below 2 ^ k
+unfoldable pub power_below : ℕ → ℕ → Bool
+power_below zero a = false
+power_below (suc k) a = cond (a == 2 ^ k) true (power_below k a)
+
+-- the same law as a test
+abbrev pub is_alignment : ℕ → Bool
+is_alignment a = power_below 17 a
 
 -- the lowest displacement is -2^31
 abbrev pub lowest : ℤ

@@ -3,6 +3,9 @@
 
 #![tactic(auto)]
 
+ghost use Rattle.std.specs.Prelude.{◌≡◌};
+ghost use Rattle.model.specs.Laws.{is_alignment};
+
 // Whether folding may join a section with others: a pinned one stays itself.
 #[derive(Clone, Copy, PartialEq, Eq, Debug)]
 pub enum Setting {
@@ -35,4 +38,12 @@ pub struct Record {
     pub size: u16,
     pub relocations: u16,
     pub setting: Setting,
+}
+
+// Whether a number is a power of two from 1 to 65,536.
+#[tactic(auto, using(crate::proofs::Powers::power_is, crate::proofs::Powers::no_power))]
+pub fn is_alignment(value: u64) -> bool
+    ensures { result ≡ is_alignment value }
+{
+    value <= 65536 && value.is_power_of_two()
 }

@@ -10,11 +10,11 @@ use Rattle.std.proofs.lemmas.Int.{ints}
 use Rattle.std.proofs.lemmas.Nat.{pow_below}
 use Rattle.model.specs.declared.Target.TheVariants.{Section, Outside}
 use Rattle.model.specs.Graph.{Body, Present, section_of}
-use Rattle.model.specs.Laws.{Alignment, LawfulRelocation, LawfulBody, Valid, lowest}
+use Rattle.model.specs.Laws.{Alignment, is_alignment, LawfulRelocation, LawfulBody, Valid, lowest}
+use Rattle.model.proofs.Powers.{tested_alignment}
 use Rattle.elf.specs.declared.Header.{Header}
 use Rattle.elf.specs.declared.Entry.{Entry}
-use Rattle.elf.specs.Layout.{sections, section, present, outside, aligned, power_below, entry_at}
-use Rattle.elf.proofs.Powers.{power_of}
+use Rattle.elf.specs.Layout.{sections, section, present, outside, aligned, entry_at}
 use Rattle.rules.specs.Rules.{symbol, part, in_range}
 use Rattle.rules.specs.Notes.{roots, is_root}
 use Rattle.object.specs.Meaning.{low, bytes_of, relocation_of_entry, relocation_at, relocations_in, body, told_section, meaning}
@@ -36,17 +36,17 @@ present_in b s l p = ap is_some (section_at b s l ∙ ap (λ (t : Bool). cond t 
 aligned_law : (a : ℕ) → aligned a ≡ true → Alignment (cond (a == 0) 1 a)
 aligned_law a e = go (a == 0) refl e
   where
-    go : (t : Bool) → (a == 0) ≡ t → (t || power_below a 17) ≡ true → Alignment (cond t 1 a)
+    go : (t : Bool) → (a == 0) ≡ t → (t || is_alignment a) ≡ true → Alignment (cond t 1 a)
     go true q e' = (0, omega arith, refl)
-    go false q e' = let r = power_of a 17 e' in (r.0, omega (arith, r.1), r.2)
+    go false q e' = tested_alignment a e'
 
 -- an alignment that is allowed fits 32 bits
 pub aligned_small : (a : ℕ) → aligned a ≡ true → a < 2 ^ 32
-aligned_small a e = go (or_cases (a == 0) (power_below a 17) e)
+aligned_small a e = go (or_cases (a == 0) (is_alignment a) e)
   where
-    go : ((a == 0) ≡ true) ⊎ (power_below a 17 ≡ true) → a < 2 ^ 32
+    go : ((a == 0) ≡ true) ⊎ (is_alignment a ≡ true) → a < 2 ^ 32
     go (inl t) = omega (arith, eqb-true a 0 t)
-    go (inr t) = let r = power_of a 17 t in omega (arith, pow_below r.0 17 r.1, r.2)
+    go (inr t) = let r = tested_alignment a t in omega (arith, pow_below r.0 17 (omega (arith, r.1)), r.2)
 
 all_zero : (n : ℕ) → AllByRecursion (λ (x : ℕ). x < 2 ^ 8) (replicate n 0)
 all_zero zero = tt

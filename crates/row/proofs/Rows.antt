@@ -14,17 +14,17 @@ use Rattle.model.specs.declared.Target.{Target}
 use Rattle.model.specs.declared.Target.TheVariants.{Section, Outside}
 use Rattle.model.specs.declared.Relocation.{Relocation}
 use Rattle.model.specs.declared.Record.{Record}
-use Rattle.model.specs.Laws.{Alignment, Aimed, lowest, highest}
+use Rattle.model.specs.Laws.{Alignment, is_alignment, Aimed, lowest, highest}
+use Rattle.model.proofs.Powers.{alignment_tested, tested_alignment}
 use Rattle.column.specs.Columns.{column, columns, read_column}
 use Rattle.column.proofs.Columns.{column_reads, length_column, length_columns, column_plain, columns_plain, signed_of_natural, signed_of_byte, signed_of_displacement}
 use Rattle.row_part.specs.declared.Cause.{Cause}
 use Rattle.row_part.specs.declared.Cause.TheVariants.{Letter, Range}
 use Rattle.row.specs.Entry.{Entry, header, section, bytes, relocation, root, end, letter, width, numbers, render, Ranged, RangedRecord, record_numbers, setting_number, target_kind, target_number}
-use Rattle.row_part.specs.Parts.{and_then, column_at, bounded, within, natural_at, aligned, power_below, displacement_at, end_at}
+use Rattle.row_part.specs.Parts.{and_then, column_at, bounded, within, natural_at, aligned, displacement_at, end_at}
 use Rattle.row.specs.Reading.{more_bytes, row_bytes, counted, setting_of, target_of, record_at, target_at, relocation_at, read_header, read_section, read_bytes, read_relocation, read_root, read_end, read_by, read_row}
 use Rattle.row.specs.declared.Row.{Row}
 use Rattle.row.specs.Told.{value, values, byte_values, told, answer, row_length, Cut, Occupies}
-use Rattle.row_part.proofs.Powers.{alignment_tested, tested_alignment}
 use Rattle.row_part.proofs.Parts.{Fits, and_then_from, and_then_only, cond_only, Held, column_held, natural_held, end_held, column_read, natural_read, end_read, first_at, next_column, chained, columns_chained, at_column}
 
 -- no column is wider than 18
@@ -186,7 +186,7 @@ record_reads s r h t =
     natural_in 12 2 zs 83 65536 r.alignment rest (omega arith) (omega arith) fit refl
     (alignment_small r.alignment h.1.alignment)
     )
-    (cond-true (power_below 17 r.alignment) _ _ (alignment_tested r.alignment h.1.alignment))
+    (cond-true (is_alignment r.alignment) _ _ (alignment_tested r.alignment h.1.alignment))
     )
     (
     and_then_from _ _ r.size _
@@ -392,7 +392,7 @@ header_only t e first h =
 
 aligned_only : (x a : ℕ) → aligned x ≡ Ok a → (x ≡ a) × Alignment a
 aligned_only x a h =
-    let p = cond_only (power_below 17 x) (Ok x) Range a h in
+    let p = cond_only (is_alignment x) (Ok x) Range a h in
     let same : x ≡ a = cc p.1 in
     (same, subst Alignment same (tested_alignment x p.0))
 

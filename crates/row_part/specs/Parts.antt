@@ -1,8 +1,8 @@
 -- The parts of a row: what is read at a place of a text, or why not.
-use Rattle.std.specs.Prelude.{◌≡◌, ℕ, zero, suc, ◌+◌, ◌^◌, Bool, true, false, cond, ◌&&◌, List, length, take, drop, ℤ, pos, negsuc, Some, None, Ok, Err, Option, Result, ◌==◌, int_le, nat_le, slice_index}
+use Rattle.std.specs.Prelude.{◌≡◌, ℕ, ◌+◌, cond, ◌&&◌, List, length, take, drop, ℤ, pos, negsuc, Some, None, Ok, Err, Option, Result, ◌==◌, int_le, nat_le, slice_index}
 use Rattle.std.specs.Borrow.{Bor}
 use Rattle.model.specs.declared.Target.{Target}
-use Rattle.model.specs.Laws.{lowest, highest}
+use Rattle.model.specs.Laws.{is_alignment, lowest, highest}
 use Rattle.column.specs.Columns.{column_of}
 use Rattle.row_part.specs.declared.Cause.{Cause}
 use Rattle.row_part.specs.declared.Cause.TheVariants.{Column, Range, End}
@@ -39,13 +39,8 @@ natural_at w t at limit = bounded_at w t at limit
 abbrev pub end_at : List ℕ → ℕ → Result ℕ Cause
 end_at t at = cond (slice_index t at == 10) (Ok (at + 1)) (Err End)
 
--- a power of two, below 2 ^ k
-unfoldable pub power_below : ℕ → ℕ → Bool
-power_below zero a = false
-power_below (suc k) a = cond (a == 2 ^ k) true (power_below k a)
-
 abbrev pub aligned : ℕ → Result ℕ Cause
-aligned a = cond (power_below 17 a) (Ok a) (Err Range)
+aligned a = cond (is_alignment a) (Ok a) (Err Range)
 
 abbrev pub alignment_at : List ℕ → ℕ → Result ℕ Cause
 alignment_at t at = and_then (natural_at 12 t at 65536) aligned

@@ -5,10 +5,10 @@
 
 ghost use Rattle.std.specs.Prelude.{◌≡◌, ◌≤◌, IfOk, slice_get};
 ghost use Rattle.model.specs.Laws.{highest};
-ghost use Rattle.row_part.specs.Parts.{column_at, natural_at, power_below, alignment_at, displacement_at, end_at, Ended};
+ghost use Rattle.row_part.specs.Parts.{column_at, natural_at, alignment_at, displacement_at, end_at, Ended};
 
 use column::read_column;
-use model::Target;
+use model::{Target, is_alignment};
 
 // Which part of a row is bad, from the left.
 #[derive(Clone, Copy, PartialEq, Eq, Debug)]
@@ -65,19 +65,12 @@ pub fn short_at(width: usize, text: &[u8], at: usize, limit: u16) -> Result<u16,
     Ok(number as u16)
 }
 
-// Whether a number is a power of two from 1 to 65,536.
-fn is_alignment(value: u32) -> bool
-    ensures { result ≡ power_below 17 value }
-{
-    value <= 65536 && value.is_power_of_two()
-}
-
 // A power of two from 1 to 65,536.
 pub fn alignment_at(text: &[u8], at: usize) -> Result<u32, Cause>
     ensures { result ≡ alignment_at text.now at }
 {
     let value = word_at(12, text, at, 65536)?;
-    if is_alignment(value) {
+    if is_alignment(u64::from(value)) {
         Ok(value)
     } else {
         Err(Cause::Range)

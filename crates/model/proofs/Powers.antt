@@ -1,12 +1,11 @@
 -- The test for a power of two.
-use Rattle.std.proofs.Common.{◌≡◌, ℕ, zero, suc, ◌+◌, ◌/◌, ◌%◌, ◌^◌, ◌<◌, ◌≤◌, Bool, true, false, cond, eqb, leb, ◌⊎◌, sym, refl, ap, ◌∙◌, inl, inr, pow-suc, pow_mono, arith}
+use Rattle.std.proofs.Common.{◌≡◌, ℕ, zero, suc, ◌+◌, ◌/◌, ◌%◌, ◌^◌, ◌<◌, ◌≤◌, Bool, true, false, cond, eqb, ◌⊎◌, sym, refl, ap, ◌∙◌, inl, inr, pow-suc, pow_mono, arith}
 use Rattle.std.specs.Prelude.{count_ones}
 use Rattle.std.specs.Int.{is_power_of_two}
 use lib.Count.{ones_step, ones-ones, ones-le}
 use Rattle.std.proofs.lemmas.Nat.{zero_from_ones}
-use Rattle.std.proofs.lemmas.Bool.{cases_lt, eq-eqb, eqb-true, leb-true}
-use Rattle.model.specs.Laws.{Alignment}
-use Rattle.row_part.specs.Parts.{power_below}
+use Rattle.std.proofs.lemmas.Bool.{cases_lt, eq-eqb, eqb-true}
+use Rattle.model.specs.Laws.{Alignment, power_below, is_alignment}
 
 pub power_found : (k i a : ℕ) → i < k → a ≡ 2 ^ i → power_below k a ≡ true
 unfolding power_below
@@ -38,10 +37,10 @@ power_only (suc k) a h = go (eqb a (2 ^ k)) refl h (λ r. power_only k a r)
     go true t c rest = (k, omega arith, eqb-true a (2 ^ k) t)
     go false t c rest = let p = rest c in (p.0, omega (arith, p.1), p.2)
 
-pub alignment_tested : (a : ℕ) → Alignment a → power_below 17 a ≡ true
+pub alignment_tested : (a : ℕ) → Alignment a → is_alignment a ≡ true
 alignment_tested a (k, low, e) = power_found 17 k a (omega arith) e
 
-pub tested_alignment : (a : ℕ) → power_below 17 a ≡ true → Alignment a
+pub tested_alignment : (a : ℕ) → is_alignment a ≡ true → Alignment a
 tested_alignment a h = let p = power_only 17 a h in (p.0, omega (arith, p.1), p.2)
 
 -- a power of two has one bit, and nothing else has
@@ -73,17 +72,18 @@ same true c to back = sym (to refl)
 same false true to back = back refl
 same false false to back = refl
 
-pub one_bit_tested : (a : ℕ) → a ≤ 65536 → is_power_of_two a ≡ power_below 17 a
-one_bit_tested a low =
+-- up to 65,536 a power of two is an alignment
+pub power_is : (a : ℕ) → a ≤ 65536 → is_power_of_two a ≡ is_alignment a
+power_is a low =
     same _ _
     (λ h. let q = one_bit 17 a (omega arith) (eqb-true (count_ones a) 1 h) in power_found 17 q.0 a q.1 q.2)
     (λ h. let q = power_only 17 a h in eq-eqb (count_ones a) 1 (ap count_ones q.2 ∙ power_bits q.0))
 
--- a number above 65,536 is no power that is asked for
-pub large_tested : (a : ℕ) → 65536 < a → leb a 65536 ≡ power_below 17 a
-large_tested a high =
+-- a larger number is none
+pub no_power : (a : ℕ) → 65536 < a → is_alignment a ≡ false
+no_power a high =
     same _ _
-    (λ h. absurd (omega (arith, leb-true a 65536 h)))
     (λ h.
     let q = power_only 17 a h in
     absurd (omega (arith, q.2, pow_mono {i = q.0} {j = 16} (omega (arith, q.1)))))
+    (λ h. cc)
