@@ -7,11 +7,11 @@ use Rattle.std.proofs.lemmas.Bool.{cases_lt}
 use Rattle.model.specs.declared.Relocation.{Relocation}
 use Rattle.model.specs.declared.Target.{Target}
 use Rattle.model.specs.declared.Target.TheVariants.{Section, Outside}
-use Rattle.model.specs.Graph.{Body, Graph, Present, section_of}
+use Rattle.model.specs.Graph.{Body, Graph, Present, section_of, section_named}
 use Rattle.model.specs.Laws.{Aimed, LawfulRelocation, LawfulBody, Valid}
 use Rattle.row.specs.Entry.{Entry, end}
 use Rattle.layout.specs.Layout.{with_bytes, with_relocations, with_sections, with_roots, entries, Formed, Free}
-use Rattle.layout.specs.Reading.{aimed, named, absent_in}
+use Rattle.layout.specs.Reading.{named, absent_in}
 
 -- the section that a row names, if any, is present
 abbrev pub Aims : Graph → Entry → Type 0
@@ -36,11 +36,11 @@ present_below bs s h = go (cases_lt s (length bs))
         absurd (let z : ◌≡◌ {A = ℕ} 0 1 = cc in omega arith)
 
 -- a target that is aimed at a present section, where it is aimed at a free one, and the other way round
-aimed_present : (g : Graph) (t : Target) → absent_in g (aimed t) ≡ false → Aimed Free t → Aimed (Present g) t
+aimed_present : (g : Graph) (t : Target) → absent_in g (section_named t) ≡ false → Aimed Free t → Aimed (Present g) t
 aimed_present g (Section t) h f = present_yes (section_of g t) h
 aimed_present g (Outside e) h f = f
 
-aimed_free : (g : Graph) (t : Target) → length g.sections ≤ 1024 → Aimed (Present g) t → Aimed Free t × (absent_in g (aimed t) ≡ false)
+aimed_free : (g : Graph) (t : Target) → length g.sections ≤ 1024 → Aimed (Present g) t → Aimed Free t × (absent_in g (section_named t) ≡ false)
 aimed_free g (Section t) few h = (omega (arith, present_below g.sections t h), present_not (section_of g t) h)
 aimed_free g (Outside e) few h = (h, refl)
 
@@ -57,7 +57,7 @@ aims_past_bytes g (suc k) (b ∷ bs) rest h = aims_past_bytes g k (drop 16 (b �
 
 -- each relocation of the list aims at a present section
 abbrev AimedAll : Graph → List Relocation → Type 0
-AimedAll g rs = AllByRecursion (λ r. absent_in g (aimed r.target) ≡ false) rs
+AimedAll g rs = AllByRecursion (λ r. absent_in g (section_named r.target) ≡ false) rs
 
 aims_relocations : (g : Graph) (rs : List Relocation) (rest : List Entry) → AimedAll g rs → AllByRecursion (Aims g) rest → AllByRecursion (Aims g) (with_relocations rs rest)
 aims_relocations g [] rest a h = h

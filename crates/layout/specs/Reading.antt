@@ -4,9 +4,7 @@ use Rattle.std.specs.Option.{option_map}
 use Rattle.fault.specs.declared.Fault.{Fault}
 use Rattle.fault.specs.declared.Kind.TheVariants.{BadRow, Dangling}
 use Rattle.fault.specs.declared.Layer.TheVariants.{Format}
-use Rattle.model.specs.Graph.{Graph, section_of}
-use Rattle.model.specs.declared.Target.{Target}
-use Rattle.model.specs.declared.Target.TheVariants.{Section, Outside}
+use Rattle.model.specs.Graph.{Graph, section_of, section_named}
 use Rattle.lines.specs.Lines.{lines, row_start, verdict}
 use Rattle.row.specs.declared.Cause.{Cause}
 use Rattle.row.specs.Entry.{Entry, header, section, bytes, relocation, root, end}
@@ -41,15 +39,11 @@ abbrev pub graph_of : List ℕ → Graph
 graph_of t = graph_in (entries_in (lines t))
 
 -- the section that a relocation or a root names
-abbrev pub aimed : Target → Option ℕ
-aimed (Section t) = Some t
-aimed (Outside e) = None
-
 abbrev pub named : Entry → Option ℕ
 named (header n k) = None
 named (section s r) = None
 named (bytes bs) = None
-named (relocation r) = aimed r.target
+named (relocation r) = section_named r.target
 named (root t) = Some t
 named (end k) = None
 

@@ -2,8 +2,20 @@
 use Rattle.std.specs.Prelude.{◌≡◌, ℕ, true, List, [], length, is_some, Some, None, Option, slice_index_or}
 use Rattle.std.specs.List.{slice_get}
 use Rattle.model.specs.declared.Setting.{Setting}
+use Rattle.model.specs.declared.Target.{Target}
+use Rattle.model.specs.declared.Target.TheVariants.{Section, Outside}
 use Rattle.model.specs.declared.Relocation.{Relocation}
 use Rattle.model.specs.declared.Record.{Record}
+
+-- the section that a target names, if it is one
+abbrev pub section_named : Target → Option ℕ
+section_named (Section t) = Some t
+section_named (Outside e) = None
+
+-- the outside name, if it is one
+abbrev pub outside_named : Target → Option ℕ
+outside_named (Section t) = None
+outside_named (Outside e) = Some e
 
 -- a present section
 pub record Body : Type 0 where

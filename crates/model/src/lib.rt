@@ -4,6 +4,7 @@
 #![tactic(auto)]
 
 ghost use Rattle.std.specs.Prelude.{◌≡◌};
+ghost use Rattle.model.specs.Graph.{section_named, outside_named};
 ghost use Rattle.model.specs.Laws.{is_alignment};
 
 // Whether folding may join a section with others: a pinned one stays itself.
@@ -18,6 +19,28 @@ pub enum Setting {
 pub enum Target {
     Section(u16),
     Outside(u16),
+}
+
+impl Target {
+    // The section that is pointed at, if it is one.
+    pub fn section(self) -> Option<u16>
+        ensures { result ≡ section_named self }
+    {
+        match self {
+            Target::Section(s) => Some(s),
+            Target::Outside(_) => None,
+        }
+    }
+
+    // The outside name that is pointed at, if it is one.
+    pub fn outside(self) -> Option<u16>
+        ensures { result ≡ outside_named self }
+    {
+        match self {
+            Target::Section(_) => None,
+            Target::Outside(e) => Some(e),
+        }
+    }
 }
 
 // One relocation of a section: which place is filled in, how, and from what.

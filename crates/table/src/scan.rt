@@ -8,7 +8,6 @@ ghost use Rattle.table.specs.Notes.{no_notes, note_entry, scanned, unnoted, loos
 
 use fault::{Fault, Kind, Layer};
 use layout::State;
-use model::{Relocation, Target};
 use row::{Row, read_row};
 
 // Where the row of each section begins, `None` where there is none.
@@ -113,13 +112,7 @@ fn named(row: &Row<'_>) -> Option<u16>
     ensures { result ≡ named (told row.now) }
 {
     match row {
-        Row::Relocation {
-            relocation: Relocation {
-                target: Target::Section(s),
-                ..
-            },
-            ..
-        } => Some(*s),
+        Row::Relocation { relocation, .. } => relocation.target.section(),
         Row::Root { section, .. } => Some(*section),
         _ => None,
     }
