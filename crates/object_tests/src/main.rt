@@ -30,17 +30,15 @@ fn show_bytes(rt: &HostRuntime, o: &Object, s: u16, size: u16) -> anyhow::Result
 
 // The relocations of section `s`.
 fn show_relocations(rt: &HostRuntime, o: &Object, s: u16, count: u16) -> anyhow::Result<()> {
-    for j in 0..count {
-        if let Some(r) = o.relocation(s, j) {
-            let (kind, number) = match r.target {
-                Target::Section(t) => (0, t),
-                Target::Outside(e) => (1, e),
-            };
-            println!(rt;
-                "R{:>12}{:>12}{kind:>12}{number:>12}{:>12}",
-                r.offset, r.kind, r.displacement
-            )?;
-        }
+    for r in (0..count).filter_map(|j| o.relocation(s, j)) {
+        let (kind, number) = match r.target {
+            Target::Section(t) => (0, t),
+            Target::Outside(e) => (1, e),
+        };
+        println!(rt;
+            "R{:>12}{:>12}{kind:>12}{number:>12}{:>12}",
+            r.offset, r.kind, r.displacement
+        )?;
     }
     Ok(())
 }
@@ -48,21 +46,17 @@ fn show_relocations(rt: &HostRuntime, o: &Object, s: u16, count: u16) -> anyhow:
 // The graph of an object as rows.
 fn show(rt: &HostRuntime, o: &Object) -> anyhow::Result<()> {
     println!(rt; "H{:>12}{:>12}", o.count(), o.root_count())?;
-    for s in 0..o.count() {
-        if let Some(r) = o.record_of(s) {
-            let pinned = u8::from(r.setting == Setting::Pinned);
-            println!(rt;
-                "S{s:>12}{:>12}{:>12}{:>12}{:>12}{pinned:>12}",
-                r.flags, r.alignment, r.size, r.relocations
-            )?;
-            show_bytes(rt, o, s, r.size)?;
-            show_relocations(rt, o, s, r.relocations)?;
-        }
+    for (s, r) in (0..o.count()).filter_map(|s| Some((s, o.record_of(s)?))) {
+        let pinned = u8::from(r.setting == Setting::Pinned);
+        println!(rt;
+            "S{s:>12}{:>12}{:>12}{:>12}{:>12}{pinned:>12}",
+            r.flags, r.alignment, r.size, r.relocations
+        )?;
+        show_bytes(rt, o, s, r.size)?;
+        show_relocations(rt, o, s, r.relocations)?;
     }
-    for j in 0..o.root_count() {
-        if let Some(t) = o.root(j) {
-            println!(rt; "T{t:>12}")?;
-        }
+    for t in (0..o.root_count()).filter_map(|j| o.root(j)) {
+        println!(rt; "T{t:>12}")?;
     }
     let present = (0..o.count()).filter(|s| o.record_of(*s).is_some()).count();
     println!(rt; "E{present:>12}")?;
@@ -86,23 +80,30 @@ fn read(rt: &HostRuntime, name: &str) -> anyhow::Result<()> {
     }
 }
 
-// A copy of `b` with the byte `x` at `p`.
-fn patched(heap: Global, b: &[u8], p: usize, x: u8) -> Result<Vec<u8>, AllocError> {
-    let mut copy = b.to_vec(heap)?;
-    if let Some(place) = copy.get_mut(p) {
-        *place = x;
-    }
-    Ok(copy)
+// A byte at a place of a file.
+#[derive(Clone, Copy)]
+struct Change {
+    place: usize,
+    byte: u8,
 }
 
-// A copy of `b` with bytes at places; each is three bytes, the place and what stands there then.
-fn patched_by(heap: Global, b: &[u8], changes: &[u8]) -> Result<Vec<u8>, AllocError> {
+// A change as three bytes tell it, two for the place.
+fn told_change(told: &[u8]) -> Option<Change> {
+    match told {
+        [low, high, byte] => Some(Change {
+            place: usize::from(u16::from_le_bytes([*low, *high])),
+            byte: *byte,
+        }),
+        _ => None,
+    }
+}
+
+// A copy of `b` with bytes at places.
+fn patched(heap: Global, b: &[u8], changes: &[Change]) -> Result<Vec<u8>, AllocError> {
     let mut copy = b.to_vec(heap)?;
-    for change in changes.chunks_exact(3) {
-        if let [low, high, x] = change
-            && let Some(place) = copy.get_mut(usize::from(u16::from_le_bytes([*low, *high])))
-        {
-            *place = *x;
+    for change in changes {
+        if let Some(old) = copy.get_mut(change.place) {
+            *old = change.byte;
         }
     }
     Ok(copy)
@@ -116,7 +117,11 @@ fn patches(rt: &HostRuntime, b: &[u8], list: &[u8]) -> anyhow::Result<()> {
     {
         // a patch of no places has no verdict
         if !changes.is_empty() {
-            match examine(patched_by(rt.alloc(), b, changes)?.as_slice()) {
+            let told: Vec<Change> = changes
+                .chunks(3)
+                .filter_map(told_change)
+                .collect(rt.alloc())?;
+            match examine(patched(rt.alloc(), b, told.as_slice())?.as_slice()) {
                 Ok(_) => println!(rt; "accepted")?,
                 Err(f) => show_fault(rt, f)?,
             }
@@ -154,11 +159,11 @@ impl Tally {
 // Each byte set to 0, to 255 and flipped, and the object cut before it.
 fn sweep(rt: &HostRuntime, b: &[u8]) -> anyhow::Result<()> {
     let mut tally = Tally::default();
-    for (p, x) in b.iter().enumerate() {
+    for (place, x) in b.iter().enumerate() {
         for byte in [0, 255, *x ^ 255] {
-            tally.add(patched(rt.alloc(), b, p, byte)?.as_slice());
+            tally.add(patched(rt.alloc(), b, &[Change { place, byte }])?.as_slice());
         }
-        tally.add(&b[..p]);
+        tally.add(&b[..place]);
     }
     println!(rt; "swept{:>12}{:>12}", tally.accepted, tally.digest)?;
     Ok(())

@@ -1,7 +1,8 @@
 // What is read, an object or a table, and what is said of any section graph.
-use graph::SectionGraph;
+use graph::{SectionGraph, relocations_told};
 use model::Target;
 use std::alloc::{AllocError, Global};
+use std::collections::BTreeSet;
 use std::io::Read;
 use std::{fmt, fs, io};
 use summary::{Summary, summarize};
@@ -25,20 +26,15 @@ pub fn is_object(bytes: &[u8]) -> bool {
 
 // How many outside names are used.
 fn outside_names<G: SectionGraph>(heap: Global, graph: &G) -> Result<usize, AllocError> {
-    let mut seen = vec![in heap; false; 65536]?;
+    let mut names = BTreeSet::new(heap);
     for s in 0..graph.count() {
-        if let Some(section) = graph.record_of(s) {
-            for j in 0..section.relocations {
-                if let Some(relocation) = graph.relocation(s, j)
-                    && let Target::Outside(name) = relocation.target
-                    && let Some(used) = seen.get_mut(usize::from(name))
-                {
-                    *used = true;
-                }
+        for j in 0..relocations_told(graph.record_of(s)) {
+            if let Some(Target::Outside(name)) = graph.relocation(s, j).map(|told| told.target) {
+                names.insert(name)?;
             }
         }
     }
-    Ok(seen.iter().filter(|used| **used).count())
+    Ok(names.len())
 }
 
 // What a section graph holds; it prints as lines.
