@@ -10,6 +10,10 @@ use fault::Fault;
 use field::read;
 use model::is_alignment;
 
+pub mod flag;
+pub mod index;
+pub mod kind;
+
 // What is read of a section header; `stride` is the size of an entry, `kind` the type.
 #[derive(Clone, Copy, PartialEq, Eq, Debug)]
 pub struct Header {
@@ -51,30 +55,47 @@ impl Header {
     fn is_apart(self) -> bool
         ensures { result ≡ apart self.kind }
     {
-        matches!(self.kind, 0 | 2 | 3 | 4 | 9 | 17 | 18 | 0x6fff4c03)
+        matches!(
+            self.kind,
+            kind::NULL
+                | kind::SYMBOL_TABLE
+                | kind::STRING_TABLE
+                | kind::RELOCATIONS
+                | kind::RELOCATIONS_WITHOUT_ADDENDS
+                | kind::GROUP
+                | kind::EXTENDED_INDEXES
+                | kind::ADDRESS_SIGNIFICANCE
+        )
     }
 
     // Whether the section is present in the graph.
     pub fn is_present(self) -> bool
         ensures { result ≡ present self }
     {
-        self.has(2) && !self.is_apart()
+        self.has(flag::ALLOCATE) && !self.is_apart()
     }
 
     // Whether the section is kept for what it is.
     pub fn is_root(self) -> bool
         ensures { result ≡ root self }
     {
-        self.is_present() && (matches!(self.kind, 14 | 15 | 16) || self.has(0x200000))
+        self.is_present()
+            && (matches!(
+                self.kind,
+                kind::INITIALIZERS | kind::FINALIZERS | kind::EARLY_INITIALIZERS
+            ) || self.has(flag::RETAIN))
     }
 
     // Whether the section may be folded if no symbol in it is listed.
     pub fn is_plain(self) -> bool
         ensures { result ≡ plain self }
     {
-        self.kind == 1
+        self.kind == kind::PROGRAM
             && !self.is_root()
-            && !(self.has(0x1) || self.has(0x10) || self.has(0x80) || self.has(0x400))
+            && !(self.has(flag::WRITE)
+                || self.has(flag::MERGE)
+                || self.has(flag::LINK_ORDER)
+                || self.has(flag::THREAD_LOCAL))
     }
 }
 
@@ -83,7 +104,10 @@ impl Symbol {
     pub fn is_outside(self) -> bool
         ensures { result ≡ outside self.section }
     {
-        matches!(self.section, 0 | 0xfff1 | 0xfff2)
+        matches!(
+            self.section,
+            index::UNDEFINED | index::ABSOLUTE | index::COMMON
+        )
     }
 }
 

@@ -84,9 +84,9 @@ tabled b f = record { symbols_right = refl; ends = go (table b) refl }
 pub unlisted : (b : List ℕ) → None ≡ significance b → first_fault (listing_rule b) ≡ None
 unlisted b e = ap (λ (o : Option ℕ). first_fault (item_checks (symbols b).count (listing_of b o))) (sym e)
 
--- what is read of an address-significance table
-abbrev pub listing_read : List ℕ → ℕ → ℕ → Result (List Bool) Fault
-listing_read b from size =
+-- what is read of an address-significance table in the bytes xs, whose numbers are symbols of b
+abbrev pub listing_read : List ℕ → List ℕ → ℕ → ℕ → Result (List Bool) Fault
+listing_read b xs from size =
     answer
-    (first_fault (item_checks (symbols b).count (items (Some 0) from (take size (drop from b)))))
-    (map (listed_in b (items (Some 0) from (take size (drop from b)))) (range_with_len 0 1024))
+    (first_fault (item_checks (symbols b).count (items (Some 0) from (take size (drop from xs)))))
+    (map (listed_in b (items (Some 0) from (take size (drop from xs)))) (range_with_len 0 1024))

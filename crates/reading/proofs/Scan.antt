@@ -1,9 +1,9 @@
 -- The address-significance table, read byte by byte.
-use Rattle.std.proofs.Common.{◌≡◌, ℕ, zero, suc, ◌+◌, ◌-◌, ◌*◌, ◌^◌, ◌<◌, ◌≤◌, Bool, true, false, cond, not, ◌&&◌, ◌||◌, eqb, ltb, leb, ◌≢◌, ◌⊎◌, List, [], ◌∷◌, map, length, get_or, drop, set, replicate, Some, None, Ok, Err, Option, Result, sym, refl, ap, ◌∙◌, inl, inr, arith}
+use Rattle.std.proofs.Common.{◌≡◌, ℕ, suc, ◌+◌, ◌-◌, ◌*◌, ◌^◌, ◌<◌, ◌≤◌, Bool, true, false, cond, not, ◌&&◌, ◌||◌, eqb, ltb, leb, ◌≢◌, ◌⊎◌, List, [], ◌∷◌, map, length, get_or, drop, set, replicate, unwrap_or, Some, None, Ok, Err, Option, Result, sym, refl, ap, ◌∙◌, inl, inr, arith}
 use Rattle.fault.specs.declared.Fault.{Fault}
 use Rattle.field.specs.declared.Number.{Number}
 use Rattle.std.specs.declared.ops.ControlFlow.TheVariants.{Continue, Break}
-use Rattle.field.specs.Uleb.{decoded, limited, number_at, misshapen, Gathered, gathered, none_yet}
+use Rattle.field.specs.Uleb.{decoded, limited, misshapen, Gathered, gathered, none_yet}
 use Rattle.field.proofs.Onward.{prefixed, pending, Steps, stepped, some_taken}
 use Rattle.std.specs.List.{range_with_len}
 use Rattle.std.proofs.lemmas.Bool.{cases_eq, eq-eqb, ne_eqb, lt-ltb, le-ltb, cases_lt}
@@ -15,25 +15,41 @@ use Rattle.elf.specs.declared.Symbol.{Symbol}
 use Rattle.elf.specs.Layout.{outside}
 use Rattle.rules.specs.Notes.{listed_in}
 use Rattle.rules.specs.Rules.{symbols, symbol}
+use Rattle.reading.specs.declared.Begun.{Begun}
 use Rattle.rules.specs.Listing.{Item, left_of, items, number_checks, item_checks, defined_in, lists, marked}
 
--- the items that are left, where k bytes with the value v of a number that began at `from` were read
-abbrev pub rest : ℕ → ℕ → ℕ → ℕ → List ℕ → List Item
-rest zero v from p xs = items (Some 0) p xs
-rest (suc k) v from p xs =
-    record { place = from; number = pending (suc k) v from xs } ∷ items (left_of (pending (suc k) v from xs) (suc k)) p xs
+-- the items that the bytes tell, of which the first is the number h and `passed` bytes of it stand before p
+abbrev front : Begun → ℕ → List ℕ → ℕ → List ℕ → List Item
+front h passed ys p xs =
+    record { place = h.from; number = pending h.number.taken h.number.value h.from ys }
+    ∷ items (left_of (pending h.number.taken h.number.value h.from ys) passed) p xs
+
+-- the items that are left, where a number may be begun
+abbrev pub rest : Option Begun → ℕ → List ℕ → List Item
+rest None p xs = items (Some 0) p xs
+rest (Some h) p xs = front h h.number.taken xs p xs
+
+-- the number that the byte at the place `here` belongs to: the one that is begun, or one that begins here
+abbrev pub at_hand : Option Begun → ℕ → Begun
+at_hand None here = record { number = none_yet; from = here }
+at_hand (Some h) here = h
 
 abbrev pub all : ℕ → List ℕ → List Item
 all base bytes = items (Some 0) base bytes
 
-pub record Scanned (b : List ℕ) (base : ℕ) (bytes : List ℕ) (i : ℕ) (n : Number) (from : ℕ) (marks : List Bool) : Type 0 where
-  pub few : n.taken ≤ 4
-  pub small : n.value < 128 ^ n.taken
+-- the same, as the library's unwrap_or tells it
+pub belongs : (o : Option Begun) (here : ℕ) (n : Number) (h : Begun) → n ≡ none_yet → h ≡ unwrap_or o (record { number = n; from = here }) → h ≡ at_hand o here
+belongs None here n h e f = f ∙ ap (λ (m : Number). record { number = m; from = here }) e
+belongs (Some b) here n h e f = f
+
+pub record Scanned (b : List ℕ) (base : ℕ) (bytes : List ℕ) (i : ℕ) (begun : Option Begun) (marks : List Bool) : Type 0 where
+  pub few : (at_hand begun (base + i)).number.taken ≤ 4
+  pub small : (at_hand begun (base + i)).number.value < 128 ^ (at_hand begun (base + i)).number.taken
   pub size : length marks ≡ 1024
-  pub clear : first_fault (item_checks (symbols b).count (rest n.taken n.value from (base + i) (drop i bytes)))
+  pub clear : first_fault (item_checks (symbols b).count (rest begun (base + i) (drop i bytes)))
       ≡ first_fault (item_checks (symbols b).count (all base bytes))
   pub noted : (s : ℕ) → s < 1024
-      → (get_or marks s false || lists b s (rest n.taken n.value from (base + i) (drop i bytes))) ≡ lists b s (all base bytes)
+      → (get_or marks s false || lists b s (rest begun (base + i) (drop i bytes))) ≡ lists b s (all base bytes)
 
 -- no byte read
 zero_prefix : (o : Option Number) → prefixed 0 0 o ≡ o
@@ -70,69 +86,48 @@ no_items : (p : ℕ) (xs : List ℕ) → items None p xs ≡ []
 no_items p [] = refl
 no_items p (x ∷ xs) = refl
 
--- where the number at hand began
-abbrev pub began : ℕ → ℕ → ℕ → ℕ
-began zero here from = here
-began (suc k) here from = from
-
-pub begun_is : (k here from : ℕ) → cond (eqb k 0) here from ≡ began k here from
-begun_is zero here from = refl
-begun_is (suc k) here from = rw (ne_eqb (suc k) 0 (λ e. omega arith))
-
 -- what is left, with the number at hand in front
-unrolled : (k v from p x : ℕ) (xs : List ℕ) → (k ≡ 0 → v ≡ 0)
-    → rest k v from p (x ∷ xs)
-    ≡ (record { place = began k p from; number = pending k v (began k p from) (x ∷ xs) }
-    ∷ items (left_of (pending k v (began k p from) (x ∷ xs)) (suc k)) (suc p) xs)
-unrolled zero v from p x xs z =
-    let e : pending 0 v p (x ∷ xs) ≡ number_at (x ∷ xs) p
-    = ap (λ (y : ℕ). pending 0 y p (x ∷ xs)) (z refl) ∙ ap (λ (o : Option Number). limited o p) (zero_prefix (decoded (x ∷ xs)))
-    in let f : Result Number Fault → List Item = λ r. record { place = p; number = r } ∷ items (left_of r 1) (suc p) xs
-    in sym (ap f e)
-unrolled (suc k) v from p x xs z = go (pending (suc k) v from (x ∷ xs)) refl
+unrolled : (o : Option Begun) (p x : ℕ) (xs : List ℕ) → rest o p (x ∷ xs) ≡ front (at_hand o p) (suc (at_hand o p).number.taken) (x ∷ xs) (suc p) xs
+unrolled None p x xs =
+    let f : Result Number Fault → List Item = λ r. record { place = p; number = r } ∷ items (left_of r 1) (suc p) xs
+    in sym (ap f (ap (λ (o : Option Number). limited o p) (zero_prefix (decoded (x ∷ xs)))))
+unrolled (Some h) p x xs = go (pending h.number.taken h.number.value h.from (x ∷ xs)) refl
   where
-    go : (r : Result Number Fault) → pending (suc k) v from (x ∷ xs) ≡ r
-        → ◌≡◌ {A = List Item} (record { place = from; number = r } ∷ items (left_of r (suc k)) p (x ∷ xs))
-        (record { place = from; number = r } ∷ items (left_of r (suc (suc k))) (suc p) xs)
-    go (Err f) e = ap (λ (its : List Item). record { place = from; number = Err f } ∷ its) (sym (no_items (suc p) xs))
+    go : (r : Result Number Fault) → pending h.number.taken h.number.value h.from (x ∷ xs) ≡ r
+        → ◌≡◌ {A = List Item} (record { place = h.from; number = r } ∷ items (left_of r h.number.taken) p (x ∷ xs))
+        (record { place = h.from; number = r } ∷ items (left_of r (suc h.number.taken)) (suc p) xs)
+    go (Err f) e = ap (λ (its : List Item). record { place = h.from; number = Err f } ∷ its) (sym (no_items (suc p) xs))
     go (Ok m) e =
-        let l = more_taken (suc k) v from (x ∷ xs) m e
-        in let d : m.taken - suc k ≡ suc (m.taken - suc (suc k)) = omega arith
-        in ap (λ (j : ℕ). record { place = from; number = Ok m } ∷ items (Some j) p (x ∷ xs)) d
+        let l = more_taken h.number.taken h.number.value h.from (x ∷ xs) m e
+        in let d : m.taken - h.number.taken ≡ suc (m.taken - suc h.number.taken) = omega arith
+        in ap (λ (j : ℕ). record { place = h.from; number = Ok m } ∷ items (Some j) p (x ∷ xs)) d
 
 -- what one byte more makes of what is left
 abbrev pub Turn : ℕ → ℕ → ℕ → List Item → List ℕ → Result Gathered Fault → Type 0
 Turn count from p its xs (Err f) = first_fault (item_checks count its) ≡ Some f
 Turn count from p its xs (Ok (Break m)) = its ≡ (record { place = from; number = Ok m } ∷ items (Some 0) (suc p) xs)
 Turn count from p its xs (Ok (Continue m)) =
-    (m.taken ≤ 4) × (m.value < 128 ^ m.taken) × (its ≡ rest m.taken m.value from (suc p) xs)
+    (m.taken ≤ 4) × (m.value < 128 ^ m.taken) × (its ≡ rest (Some (record { number = m; from = from })) (suc p) xs)
 
-turned : (count : ℕ) (n : Number) (from p x : ℕ) (xs : List ℕ) (r : Result Gathered Fault) → n.taken ≤ 4 → n.value < 128 ^ n.taken → x < 256
-    → r ≡ gathered n x (began n.taken p from)
-    → Turn count (began n.taken p from) p (rest n.taken n.value from p (x ∷ xs)) xs r
-turned count n from p x xs r h l b e =
-    go r (unrolled n.taken n.value from p x xs zeroed)
-    (stepped n x (began n.taken p from) xs r h l b e)
+turned : (count : ℕ) (o : Option Begun) (p x : ℕ) (xs : List ℕ) (r : Result Gathered Fault) → (at_hand o p).number.taken ≤ 4
+    → (at_hand o p).number.value < 128 ^ (at_hand o p).number.taken → x < 256
+    → r ≡ gathered (at_hand o p).number x (at_hand o p).from
+    → Turn count (at_hand o p).from p (rest o p (x ∷ xs)) xs r
+turned count o p x xs r l v b e = go (at_hand o p) r (unrolled o p x xs) (stepped (at_hand o p).number x (at_hand o p).from xs r l v b e)
   where
-    zeroed : n.taken ≡ 0 → n.value ≡ 0
-    zeroed q = let m : n.value < 1 = rw q at l in omega arith
-
-    go : (r : Result Gathered Fault)
-        → rest n.taken n.value from p (x ∷ xs)
-        ≡ (record { place = began n.taken p from; number = pending n.taken n.value (began n.taken p from) (x ∷ xs) }
-        ∷ items (left_of (pending n.taken n.value (began n.taken p from) (x ∷ xs)) (suc n.taken)) (suc p) xs)
-        → Steps n.taken n.value x (began n.taken p from) xs r
-        → Turn count (began n.taken p from) p (rest n.taken n.value from p (x ∷ xs)) xs r
-    go (Err f) u s =
-        let g : Result Number Fault → List Item = λ y. record { place = began n.taken p from; number = y } ∷ items (left_of y (suc n.taken)) (suc p) xs
+    go : (h : Begun) (r : Result Gathered Fault) → rest o p (x ∷ xs) ≡ front h (suc h.number.taken) (x ∷ xs) (suc p) xs
+        → Steps h.number.taken h.number.value x h.from xs r
+        → Turn count h.from p (rest o p (x ∷ xs)) xs r
+    go h (Err f) u s =
+        let g : Result Number Fault → List Item = λ y. record { place = h.from; number = y } ∷ items (left_of y (suc h.number.taken)) (suc p) xs
         in ap (λ (i : List Item). first_fault (item_checks count i)) (u ∙ ap g s)
-        ∙ ap Some (refused_is (prefixed n.taken n.value (decoded (x ∷ xs))) (began n.taken p from) f s)
-    go (Ok (Break m)) u s =
-        let g : Result Number Fault → List Item = λ y. record { place = began n.taken p from; number = y } ∷ items (left_of y (suc n.taken)) (suc p) xs
-        in let d : m.taken - suc n.taken ≡ 0 = omega (arith, s.1)
-        in u ∙ (ap g s.0 ∙ ap (λ (j : ℕ). record { place = began n.taken p from; number = Ok m } ∷ items (Some j) (suc p) xs) d)
-    go (Ok (Continue m)) u s =
-        let g : Result Number Fault → List Item = λ y. record { place = began n.taken p from; number = y } ∷ items (left_of y (suc n.taken)) (suc p) xs
+        ∙ ap Some (refused_is (prefixed h.number.taken h.number.value (decoded (x ∷ xs))) h.from f s)
+    go h (Ok (Break m)) u s =
+        let g : Result Number Fault → List Item = λ y. record { place = h.from; number = y } ∷ items (left_of y (suc h.number.taken)) (suc p) xs
+        in let d : m.taken - suc h.number.taken ≡ 0 = omega (arith, s.1)
+        in u ∙ (ap g s.0 ∙ ap (λ (j : ℕ). record { place = h.from; number = Ok m } ∷ items (Some j) (suc p) xs) d)
+    go h (Ok (Continue m)) u s =
+        let g : Result Number Fault → List Item = λ y. record { place = h.from; number = y } ∷ items (left_of y (suc h.number.taken)) (suc p) xs
         in rw s.0 (s.1, s.2, u ∙ ap g s.3)
 
 -- the marks of sections, one symbol more
@@ -178,7 +173,7 @@ marked_size y xs = go (not (outside y.section) && ltb y.section 1024)
     go true = length-set xs y.section true
     go false = refl
 
-pub begin : (b : List ℕ) (base : ℕ) (bytes : List ℕ) → Scanned b base bytes 0 none_yet base (replicate 1024 false)
+pub begin : (b : List ℕ) (base : ℕ) (bytes : List ℕ) → Scanned b base bytes 0 None (replicate 1024 false)
 begin b base bytes =
     let z : base + 0 ≡ base = omega arith
     in record {
@@ -189,97 +184,89 @@ begin b base bytes =
       noted = λ s h. rw (z, get_or-replicate {A = Bool} 1024 s false false h) refl;
     }
 
-module _ (b : List ℕ) (base : ℕ) (bytes : List ℕ) (i : ℕ) (n : Number) (from : ℕ) (marks : List Bool) where
-  -- the byte at hand in front of those that are left
-  turn_at : (r : Result Gathered Fault) → Scanned b base bytes i n from marks → i < length bytes → get_or bytes i 0 < 256
-      → r ≡ gathered n (get_or bytes i 0) (began n.taken (base + i) from)
-      → Turn (symbols b).count (began n.taken (base + i) from) (base + i) (rest n.taken n.value from (base + i) (drop i bytes)) (drop (i + 1) bytes) r
-  turn_at r w lt x e =
-      rw (drop_more bytes i 0 lt)
-      (turned (symbols b).count n from (base + i) (get_or bytes i 0) (drop (i + 1) bytes) r w.few w.small x e)
-
+module _ (b : List ℕ) (base : ℕ) (bytes : List ℕ) (i : ℕ) (begun : Option Begun) (marks : List Bool) where
   next : suc (base + i) ≡ base + (i + 1)
   next = omega arith
 
-  -- the number does not form
-  pub bad_number : (f : Fault) → Scanned b base bytes i n from marks → i < length bytes → get_or bytes i 0 < 256
-      → Err f ≡ gathered n (get_or bytes i 0) (began n.taken (base + i) from) → first_fault (item_checks (symbols b).count (all base bytes)) ≡ Some f
-  bad_number f w lt x e = sym w.clear ∙ turn_at (Err f) w lt x e
+  -- what was read, and the byte at hand in front of those that are left, which belongs to the number h
+  module _ (h : Begun) (w : Scanned b base bytes i begun marks) (q : h ≡ at_hand begun (base + i)) (lt : i < length bytes) (x : get_or bytes i 0 < 256) where
+    turn_at : (r : Result Gathered Fault) → r ≡ gathered h.number (get_or bytes i 0) h.from
+        → Turn (symbols b).count h.from (base + i) (rest begun (base + i) (drop i bytes)) (drop (i + 1) bytes) r
+    turn_at r e =
+        rw (q, drop_more bytes i 0 lt)
+        (turned (symbols b).count begun (base + i) (get_or bytes i 0) (drop (i + 1) bytes) r w.few w.small x (rw q at e))
 
-  -- the number goes on
-  pub goes_on : (m : Number) → Scanned b base bytes i n from marks → i < length bytes → get_or bytes i 0 < 256
-      → Ok (Continue m) ≡ gathered n (get_or bytes i 0) (began n.taken (base + i) from)
-      → Scanned b base bytes (i + 1) m (began n.taken (base + i) from) marks
-  goes_on m w lt x e =
-      let t = turn_at (Ok (Continue m)) w lt x e
-      in let same : rest n.taken n.value from (base + i) (drop i bytes) ≡ rest m.taken m.value (began n.taken (base + i) from) (base + (i + 1)) (drop (i + 1) bytes)
-      = t.2 ∙ ap (λ (p : ℕ). rest m.taken m.value (began n.taken (base + i) from) p (drop (i + 1) bytes)) next
-      in record {
-        few = t.0;
-        small = t.1;
-        size = w.size;
-        clear = ap (λ (its : List Item). first_fault (item_checks (symbols b).count its)) (sym same) ∙ w.clear;
-        noted = λ s h. ap (λ (its : List Item). get_or marks s false || lists b s its) (sym same) ∙ w.noted s h;
-      }
+    -- the number does not form
+    pub bad_number : (f : Fault) → Err f ≡ gathered h.number (get_or bytes i 0) h.from → first_fault (item_checks (symbols b).count (all base bytes)) ≡ Some f
+    bad_number f e = sym w.clear ∙ turn_at (Err f) e
 
-  ended : (m : Number) → Scanned b base bytes i n from marks → i < length bytes → get_or bytes i 0 < 256
-      → Ok (Break m) ≡ gathered n (get_or bytes i 0) (began n.taken (base + i) from)
-      → rest n.taken n.value from (base + i) (drop i bytes)
-      ≡ (record { place = began n.taken (base + i) from; number = Ok m } ∷ items (Some 0) (base + (i + 1)) (drop (i + 1) bytes))
-  ended m w lt x e =
-      turn_at (Ok (Break m)) w lt x e
-      ∙ ap (λ (p : ℕ). record { place = began n.taken (base + i) from; number = Ok m } ∷ items (Some 0) p (drop (i + 1) bytes)) next
+    -- the number goes on
+    pub goes_on : (m : Number) → Ok (Continue m) ≡ gathered h.number (get_or bytes i 0) h.from
+        → Scanned b base bytes (i + 1) (Some (record { number = m; from = h.from })) marks
+    goes_on m e =
+        let t = turn_at (Ok (Continue m)) e
+        in let more : Begun = record { number = m; from = h.from }
+        in let same : rest begun (base + i) (drop i bytes) ≡ rest (Some more) (base + (i + 1)) (drop (i + 1) bytes)
+        = t.2 ∙ ap (λ (p : ℕ). rest (Some more) p (drop (i + 1) bytes)) next
+        in record {
+          few = t.0;
+          small = t.1;
+          size = w.size;
+          clear = ap (λ (its : List Item). first_fault (item_checks (symbols b).count its)) (sym same) ∙ w.clear;
+          noted = λ s l. ap (λ (its : List Item). get_or marks s false || lists b s its) (sym same) ∙ w.noted s l;
+        }
 
-  -- the number is whole, and no symbol
-  pub no_symbol : (f : Fault) (m : Number) → Scanned b base bytes i n from marks → i < length bytes → get_or bytes i 0 < 256
-      → Ok (Break m) ≡ gathered n (get_or bytes i 0) (began n.taken (base + i) from)
-      → first_fault (number_checks (symbols b).count (began n.taken (base + i) from) (Ok m)) ≡ Some f
-      → first_fault (item_checks (symbols b).count (all base bytes)) ≡ Some f
-  no_symbol f m w lt x e g =
-      sym w.clear
-      ∙ (ap (λ (its : List Item). first_fault (item_checks (symbols b).count its)) (ended m w lt x e)
-      ∙ append_some (number_checks (symbols b).count (began n.taken (base + i) from) (Ok m))
-      (item_checks (symbols b).count (items (Some 0) (base + (i + 1)) (drop (i + 1) bytes))) f g)
+    ended : (m : Number) → Ok (Break m) ≡ gathered h.number (get_or bytes i 0) h.from
+        → rest begun (base + i) (drop i bytes)
+        ≡ (record { place = h.from; number = Ok m } ∷ items (Some 0) (base + (i + 1)) (drop (i + 1) bytes))
+    ended m e =
+        turn_at (Ok (Break m)) e
+        ∙ ap (λ (p : ℕ). record { place = h.from; number = Ok m } ∷ items (Some 0) p (drop (i + 1) bytes)) next
 
-  -- the number is whole, and a symbol
-  pub is_whole : (m : Number) → Scanned b base bytes i n from marks → i < length bytes → get_or bytes i 0 < 256
-      → Ok (Break m) ≡ gathered n (get_or bytes i 0) (began n.taken (base + i) from)
-      → first_fault (number_checks (symbols b).count (began n.taken (base + i) from) (Ok m)) ≡ None
-      → Scanned b base bytes (i + 1) none_yet (began n.taken (base + i) from) (marked (symbol b m.value) marks)
-  is_whole m w lt x e g =
-      let same = ended m w lt x e
-      in let left : List Item = items (Some 0) (base + (i + 1)) (drop (i + 1) bytes)
-      in record {
-        few = omega arith;
-        small = omega arith;
-        size = marked_size (symbol b m.value) marks ∙ w.size;
-        clear =
-            sym (append_none (number_checks (symbols b).count (began n.taken (base + i) from) (Ok m)) (item_checks (symbols b).count left) g)
-            ∙ (ap (λ (its : List Item). first_fault (item_checks (symbols b).count its)) (sym same) ∙ w.clear);
-        noted = λ s h.
-            ap (λ (t : Bool). t || lists b s left) (marked_is (symbol b m.value) marks s h w.size)
-            ∙ (or_assoc (get_or marks s false) (defined_in (symbol b m.value) s) (lists b s left)
-            ∙ (ap (λ (its : List Item). get_or marks s false || lists b s its) (sym same) ∙ w.noted s h));
-      }
+    -- the number is whole, and no symbol
+    pub no_symbol : (f : Fault) (m : Number) → Ok (Break m) ≡ gathered h.number (get_or bytes i 0) h.from
+        → first_fault (number_checks (symbols b).count h.from (Ok m)) ≡ Some f
+        → first_fault (item_checks (symbols b).count (all base bytes)) ≡ Some f
+    no_symbol f m e g =
+        sym w.clear
+        ∙ (ap (λ (its : List Item). first_fault (item_checks (symbols b).count its)) (ended m e)
+        ∙ append_some (number_checks (symbols b).count h.from (Ok m))
+        (item_checks (symbols b).count (items (Some 0) (base + (i + 1)) (drop (i + 1) bytes))) f g)
+
+    -- the number is whole, and a symbol
+    pub is_whole : (m : Number) → Ok (Break m) ≡ gathered h.number (get_or bytes i 0) h.from
+        → first_fault (number_checks (symbols b).count h.from (Ok m)) ≡ None
+        → Scanned b base bytes (i + 1) None (marked (symbol b m.value) marks)
+    is_whole m e g =
+        let same = ended m e
+        in let left : List Item = items (Some 0) (base + (i + 1)) (drop (i + 1) bytes)
+        in record {
+          few = omega arith;
+          small = omega arith;
+          size = marked_size (symbol b m.value) marks ∙ w.size;
+          clear =
+              sym (append_none (number_checks (symbols b).count h.from (Ok m)) (item_checks (symbols b).count left) g)
+              ∙ (ap (λ (its : List Item). first_fault (item_checks (symbols b).count its)) (sym same) ∙ w.clear);
+          noted = λ s l.
+              ap (λ (t : Bool). t || lists b s left) (marked_is (symbol b m.value) marks s l w.size)
+              ∙ (or_assoc (get_or marks s false) (defined_in (symbol b m.value) s) (lists b s left)
+              ∙ (ap (λ (its : List Item). get_or marks s false || lists b s its) (sym same) ∙ w.noted s l));
+        }
 
   -- the bytes end within a number
-  pub cut_off : Scanned b base bytes i n from marks → length bytes ≤ i → (n.taken ≡ 0 → ⊥)
-      → first_fault (item_checks (symbols b).count (all base bytes)) ≡ Some (misshapen from)
-  cut_off w l z =
+  pub cut_off : (h : Begun) → Scanned b base bytes i begun marks → length bytes ≤ i → begun ≡ Some h
+      → first_fault (item_checks (symbols b).count (all base bytes)) ≡ Some (misshapen h.from)
+  cut_off h w l e =
       sym w.clear
-      ∙ (ap (λ (xs : List ℕ). first_fault (item_checks (symbols b).count (rest n.taken n.value from (base + i) xs))) (drop_all i bytes l)
-      ∙ go n.taken z)
-    where
-      go : (k : ℕ) → (k ≡ 0 → ⊥) → first_fault (item_checks (symbols b).count (rest k n.value from (base + i) [])) ≡ Some (misshapen from)
-      go zero z' = absurd (z' refl)
-      go (suc k) z' = refl
+      ∙ (ap (λ (xs : List ℕ). first_fault (item_checks (symbols b).count (rest begun (base + i) xs))) (drop_all i bytes l)
+      ∙ ap (λ (o : Option Begun). first_fault (item_checks (symbols b).count (rest o (base + i) []))) e)
 
   -- the bytes end after a number
-  pub all_read : Scanned b base bytes i n from marks → length bytes ≤ i → n.taken ≡ 0
+  pub all_read : Scanned b base bytes i begun marks → length bytes ≤ i → begun ≡ None
       → (first_fault (item_checks (symbols b).count (all base bytes)) ≡ None) × (marks ≡ map (listed_in b (all base bytes)) (range_with_len 0 1024))
-  all_read w l z =
-      let done : rest n.taken n.value from (base + i) (drop i bytes) ≡ []
-      = ap (λ (xs : List ℕ). rest n.taken n.value from (base + i) xs) (drop_all i bytes l) ∙ ap (λ (k : ℕ). rest k n.value from (base + i) []) z
+  all_read w l e =
+      let done : rest begun (base + i) (drop i bytes) ≡ []
+      = ap (λ (xs : List ℕ). rest begun (base + i) xs) (drop_all i bytes l) ∙ ap (λ (o : Option Begun). rest o (base + i) []) e
       in (
         sym w.clear ∙ ap (λ (its : List Item). first_fault (item_checks (symbols b).count its)) done,
         fill_by_all (listed_in b (all base bytes)) marks 1024 false w.size
@@ -287,6 +274,6 @@ module _ (b : List ℕ) (base : ℕ) (bytes : List ℕ) (i : ℕ) (n : Number) (
       )
 
 -- the same state, told otherwise
-pub moved : (b : List ℕ) (base : ℕ) (bytes : List ℕ) (i : ℕ) (n n' : Number) (from from' : ℕ) (marks marks' : List Bool)
-    → n ≡ n' → from ≡ from' → marks ≡ marks' → Scanned b base bytes i n' from' marks' → Scanned b base bytes i n from marks
-moved b base bytes i n n' from from' marks marks' p q r w = rw (p, q, r) w
+pub moved : (b : List ℕ) (base : ℕ) (bytes : List ℕ) (i : ℕ) (begun begun' : Option Begun) (marks marks' : List Bool)
+    → begun ≡ begun' → marks ≡ marks' → Scanned b base bytes i begun' marks' → Scanned b base bytes i begun marks
+moved b base bytes i begun begun' marks marks' p q w = rw (p, q) w

@@ -1,9 +1,6 @@
 -- What the inner steps of the reading rest on.
-use Rattle.std.specs.Prelude.{◌≡◌, ℕ, ◌+◌, ◌*◌, ◌<◌, ◌≤◌, List, length, None, Option, Result, slice_index_or}
+use Rattle.std.specs.Prelude.{◌≡◌, ℕ, ◌+◌, ◌*◌, ◌<◌, ◌≤◌, List, length, None, Option, slice_index_or}
 use Rattle.field.specs.Fields.{long}
-use Rattle.fault.specs.declared.Fault.{Fault}
-use Rattle.checklist.specs.Checks.{Check, first_fault, answer}
-use Rattle.elf.specs.declared.Header.{Header}
 use Rattle.elf.specs.Layout.{sections}
 use Rattle.rules.specs.declared.Symbols.{Symbols}
 use Rattle.rules.specs.Rules.{symbols, part}
@@ -23,8 +20,3 @@ pub record Tabled (b : List ℕ) (y : Symbols) : Type 0 where
 -- the sections with relocations below i are noted, each for its own
 abbrev pub Parted : List ℕ → ℕ → List (Option ℕ) → Type 0
 Parted b i parts = (t : ℕ) → t < 1024 → slice_index_or parts t None ≡ part b t i
-
--- a rule of a section, by what it may answer, answers by these checks
-abbrev pub AnswersBy : (ℕ → Header → Result (Unit {0}) Fault → Type 0) → (ℕ → Header → List Check) → Type 0
-AnswersBy answers checks =
-    (p : ℕ) (h : Header) (r : Result (Unit {0}) Fault) → answers p h r → r ≡ answer (first_fault (checks p h)) tt

@@ -3,7 +3,7 @@
 
 #![tactic(auto)]
 
-ghost use Rattle.std.specs.Prelude.{◌≡◌, ◌+◌, ◌*◌, ◌/◌, ◌<◌, ◌≤◌, length, is_some, if◌then◌else◌, Some, None, Ok, MatchResult, ◌==◌, nat_eq, nat_le, slice_index_or};
+ghost use Rattle.std.specs.Prelude.{◌≡◌, ◌+◌, ◌*◌, ◌/◌, ◌<◌, ◌≤◌, length, is_some, Some, None, Ok, MatchResult, ◌==◌, nat_le, slice_index_or};
 ghost use Rattle.checklist.specs.Checks.{first_fault, answer};
 ghost use Rattle.elf.specs.Layout.{sections, place, section, entry_at};
 ghost use Rattle.rules.specs.Known.{Headed, Tabled};
@@ -11,12 +11,12 @@ ghost use Rattle.rules.specs.Listing.{number_checks, marked};
 ghost use Rattle.rules.specs.Rules.{fault_at, cut_at, identified as identified_by, head_rule, extent_checks, content_checks, only_checks, earlier, is_number, fit_checks, symbol, symbols as symbols_in, reached, entry_checks, relocating as relocating_header, table_checks, symbol_checks};
 
 use arrayvec::ArrayVec;
-use elf::{Entry, Header, Symbol, aligned, read_entry, read_header, read_symbol};
+use elf::{Entry, Header, Symbol, aligned, index, kind, read_entry, read_header, read_symbol};
 use fault::{Fault, Kind, Layer};
 use field::{Number, read};
 
 // Where the symbols stand in the file, and how many there are.
-#[derive(Clone, Copy)]
+#[derive(Clone, Copy, PartialEq, Eq, Debug)]
 pub struct Symbols {
     pub from: u64,
     pub count: u32,
@@ -24,7 +24,7 @@ pub struct Symbols {
 
 // A section with relocations: of which section they are and how long that one is, where they stand, and how many there
 // are.
-#[derive(Clone, Copy)]
+#[derive(Clone, Copy, PartialEq, Eq, Debug)]
 pub struct Part {
     pub target: u32,
     pub size: u64,
@@ -43,7 +43,7 @@ pub struct Notes {
 }
 
 // The headers of all sections of an object, which stand in the file from `first` on.
-#[derive(Clone, Copy)]
+#[derive(Clone, Copy, PartialEq, Eq, Debug)]
 pub struct Headers<'a> {
     pub bytes: &'a [u8],
     pub first: u64,
@@ -51,15 +51,31 @@ pub struct Headers<'a> {
     ghost headed: { Headed bytes.now first count },
 }
 
-// The symbols of an object, which stand in the file.
-#[derive(Clone, Copy)]
-pub struct SymbolTable<'a> {
-    pub headers: Headers<'a>,
-    pub symbols: Symbols,
-    ghost tabled: { Tabled headers.bytes.now symbols },
+// A section header, and the place of the file where it stands.
+#[derive(Clone, Copy, PartialEq, Eq, Debug)]
+pub struct Placed {
+    pub place: u64,
+    pub header: Header,
+    ghost within: { place + 64 < 18446744073709551616 },
 }
 
-// A refusal of the format.
+// The symbols of an object, which stand in the file.
+#[derive(Clone, Copy, PartialEq, Eq, Debug)]
+pub struct SymbolTable<'a> {
+    pub bytes: &'a [u8],
+    pub symbols: Symbols,
+    ghost tabled: { Tabled bytes.now symbols },
+}
+
+// The section headers and the symbols of one object.
+#[derive(Clone, Copy, PartialEq, Eq, Debug)]
+pub struct Tables<'a> {
+    pub headers: Headers<'a>,
+    pub symbols: SymbolTable<'a>,
+    ghost same: { symbols.bytes.now ≡ headers.bytes.now },
+}
+
+// A refusal of the format; without it each refusal here would name the layer once more.
 pub fn refusal(kind: Kind, place: u64) -> Fault
     ensures { result ≡ fault_at kind place }
 {
@@ -106,7 +122,7 @@ impl<'a> Headers<'a> {
             return Err(refusal(Kind::Foreign, 58));
         }
         let count: u16 = read(bytes, 60)?;
-        if count < 1 || count > 1024 {
+        if !(1..=1024).contains(&count) {
             return Err(refusal(Kind::Oversize, 60));
         }
         let first: u64 = read(bytes, 40)?;
@@ -137,6 +153,18 @@ impl<'a> Headers<'a> {
         read_header(self.bytes, self.place(i)).unwrap()
     }
 
+    // The header of section `i`, with its place.
+    pub fn placed(self, i: u16) -> Placed
+        requires { i < self.count }
+        ensures place { result.place ≡ place self.entry.bytes.now i }
+        ensures header { result.header ≡ section self.entry.bytes.now i }
+    {
+        Placed {
+            place: self.place(i),
+            header: self.section(i),
+        }
+    }
+
     // The symbol `s`, which stands at `q`.
     pub fn symbol_rule(self, q: u64, s: Symbol) -> Result<(), Fault>
         requires { q + 24 ≤ length self.bytes.now }
@@ -145,7 +173,7 @@ impl<'a> Headers<'a> {
         if s.is_outside() {
             return Ok(());
         }
-        if s.section >= 0xff00 {
+        if s.section >= index::RESERVED {
             return Err(refusal(Kind::Misshapen, q + 6));
         }
         if s.section >= self.count {
@@ -166,15 +194,108 @@ impl<'a> Headers<'a> {
     }
 }
 
+impl Placed {
+    // That what the file holds of the section ends within it.
+    pub fn extent(self, len: u64) -> Result<(), Fault>
+        ensures { result ≡ answer (first_fault (extent_checks len self.place self.header)) tt }
+    {
+        let h = self.header;
+        if matches!(h.kind, kind::NULL | kind::NO_BITS) || ends_within(h.offset, h.size, len) {
+            return Ok(());
+        }
+        Err(cut(self.place + 24))
+    }
+
+    // That the section, where it is present, is in range.
+    pub fn content(self) -> Result<(), Fault>
+        ensures { result ≡ answer (first_fault (content_checks self.place self.header)) tt }
+    {
+        let h = self.header;
+        if !h.is_present() {
+            return Ok(());
+        }
+        if h.flags >= 4294967296 {
+            return Err(refusal(Kind::Misshapen, self.place + 8));
+        }
+        if h.size > 65535 {
+            return Err(refusal(Kind::Oversize, self.place + 32));
+        }
+        if !aligned(h.alignment) {
+            return Err(refusal(Kind::Misshapen, self.place + 48));
+        }
+        Ok(())
+    }
+
+    // That the section holds entries of 24 bytes, at most `limit`; how many.
+    pub fn entry_count(self, limit: u64) -> Result<u32, Fault>
+        requires { limit ≤ 65536 }
+        ensures { result ≡ answer (first_fault (table_checks limit self.place self.header)) (self.header.size / 24) }
+    {
+        let h = self.header;
+        if h.stride != 24 {
+            return Err(refusal(Kind::Misshapen, self.place + 56));
+        }
+        if h.size % 24 != 0 {
+            return Err(refusal(Kind::Misshapen, self.place + 32));
+        }
+        if h.size / 24 > limit {
+            return Err(refusal(Kind::Oversize, self.place + 32));
+        }
+        Ok((h.size / 24) as u32)
+    }
+
+    // Section `i` in the search for the only one of a type, of which `found` was found before.
+    pub fn only_step(self, kind: u32, i: u16, found: Option<u16>) -> Result<Option<u16>, Fault>
+        ensures { result ≡ answer (first_fault (only_checks kind self.place self.header found)) (earlier found (self.header.kind == kind) i) }
+    {
+        if self.header.kind != kind {
+            return Ok(found);
+        }
+        if found.is_some() {
+            return Err(refusal(Kind::Misshapen, self.place + 4));
+        }
+        Ok(Some(i))
+    }
+
+    // That the section, which has relocations of a present section, has them in a form that is read, as the first of that
+    // section, and of the symbols of the object; how many.
+    pub fn relocation_count(self, taken: bool, linked: bool) -> Result<u32, Fault>
+        ensures { result ≡ answer (first_fault (fit_checks self.place self.header taken linked)) (self.header.size / 24) }
+    {
+        if self.header.kind != kind::RELOCATIONS {
+            return Err(refusal(Kind::Misshapen, self.place + 4));
+        }
+        if taken {
+            return Err(refusal(Kind::Misshapen, self.place + 44));
+        }
+        if !linked {
+            return Err(refusal(Kind::Dangling, self.place + 40));
+        }
+        self.entry_count(65535)
+    }
+}
+
 impl<'a> SymbolTable<'a> {
     // Symbol `j`.
     fn symbol(self, j: u32) -> Symbol
         requires { j < self.symbols.count }
-        ensures { result ≡ symbol self.entry.headers.bytes.now j }
+        ensures { result ≡ symbol self.entry.bytes.now j }
     {
-        read_symbol(self.headers.bytes, self.symbols.from + 24 * u64::from(j)).unwrap()
+        read_symbol(self.bytes, self.symbols.from + 24 * u64::from(j)).unwrap()
     }
 
+    // The number `n`, which began at `from`, as a symbol.
+    pub fn named(self, from: u64, n: Number) -> Result<Symbol, Fault>
+        ensures { result ≡ answer (first_fault (number_checks (symbols_in self.entry.bytes.now).count from (Ok n))) (symbol self.entry.bytes.now n.value) }
+    {
+        if n.value >= self.symbols.count {
+            return Err(refusal(Kind::Dangling, from));
+        }
+        Ok(self.symbol(n.value))
+    }
+}
+
+impl<'a> Tables<'a> {
     // The relocation entry `e`, which stands at `q`, of a section of some size.
     fn entry_rule(self, size: u64, q: u64, e: Entry) -> Result<(), Fault>
         requires { q + 24 ≤ length self.headers.bytes.now }
@@ -183,10 +304,11 @@ impl<'a> SymbolTable<'a> {
         if e.offset >= size {
             return Err(refusal(Kind::Misshapen, q));
         }
-        if e.symbol >= self.symbols.count || !self.headers.reaches(self.symbol(e.symbol)) {
+        let table = self.symbols;
+        if e.symbol >= table.symbols.count || !self.headers.reaches(table.symbol(e.symbol)) {
             return Err(refusal(Kind::Dangling, q + 8));
         }
-        if e.addend < -2147483648 || e.addend > 2147483647 {
+        if i32::try_from(e.addend).is_err() {
             return Err(refusal(Kind::Misshapen, q + 16));
         }
         Ok(())
@@ -200,92 +322,16 @@ impl<'a> SymbolTable<'a> {
         let e = read_entry(self.headers.bytes, q)?;
         self.entry_rule(size, q, e)
     }
-
-    // The number `n`, which began at `from`, as a symbol.
-    pub fn named(self, from: u64, n: Number) -> Result<Symbol, Fault>
-        ensures { result ≡ answer (first_fault (number_checks (symbols_in self.entry.headers.bytes.now).count from (Ok n))) (symbol self.entry.headers.bytes.now n.value) }
-    {
-        if n.value >= self.symbols.count {
-            return Err(refusal(Kind::Dangling, from));
-        }
-        Ok(self.symbol(n.value))
-    }
-}
-
-// That what the file holds of a section, whose header stands at `p`, ends within it.
-pub fn extent(len: u64, p: u64, h: Header) -> Result<(), Fault>
-    requires { p + 64 ≤ len }
-    ensures { result ≡ answer (first_fault (extent_checks len p h)) tt }
-{
-    if matches!(h.kind, 0 | 8) || ends_within(h.offset, h.size, len) {
-        return Ok(());
-    }
-    Err(cut(p + 24))
-}
-
-// That a present section, whose header stands at `p`, is in range.
-pub fn content(p: u64, h: Header) -> Result<(), Fault>
-    requires { p + 64 < 18446744073709551616 }
-    ensures { result ≡ answer (first_fault (content_checks p h)) tt }
-{
-    if !h.is_present() {
-        return Ok(());
-    }
-    if h.flags >= 4294967296 {
-        return Err(refusal(Kind::Misshapen, p + 8));
-    }
-    if h.size > 65535 {
-        return Err(refusal(Kind::Oversize, p + 32));
-    }
-    if !aligned(h.alignment) {
-        return Err(refusal(Kind::Misshapen, p + 48));
-    }
-    Ok(())
-}
-
-// A section with entries of 24 bytes; how many it has.
-pub fn table(limit: u64, p: u64, h: Header) -> Result<u32, Fault>
-    requires fits { p + 64 < 18446744073709551616 }
-    requires few { limit ≤ 65536 }
-    ensures { result ≡ answer (first_fault (table_checks limit p h)) (h.size / 24) }
-{
-    if h.stride != 24 {
-        return Err(refusal(Kind::Misshapen, p + 56));
-    }
-    if h.size % 24 != 0 {
-        return Err(refusal(Kind::Misshapen, p + 32));
-    }
-    if h.size / 24 > limit {
-        return Err(refusal(Kind::Oversize, p + 32));
-    }
-    Ok((h.size / 24) as u32)
-}
-
-// One section in the search for the section of a type.
-pub fn only_step(
-    kind: u32,
-    p: u64,
-    i: u16,
-    h: Header,
-    found: Option<u16>,
-) -> Result<Option<u16>, Fault>
-    requires { p + 64 < 18446744073709551616 }
-    ensures { result ≡ answer (first_fault (only_checks kind p h found)) (earlier found (h.kind == kind) i) }
-{
-    if h.kind != kind {
-        return Ok(found);
-    }
-    if found.is_some() {
-        return Err(refusal(Kind::Misshapen, p + 4));
-    }
-    Ok(Some(i))
 }
 
 // Whether the section has relocations.
 pub fn relocating(h: Header) -> bool
     ensures { result ≡ relocating_header h }
 {
-    matches!(h.kind, 4 | 9)
+    matches!(
+        h.kind,
+        kind::RELOCATIONS | kind::RELOCATIONS_WITHOUT_ADDENDS
+    )
 }
 
 // Whether the section found has this number.
@@ -301,30 +347,6 @@ pub fn noted(parts: &[Option<u16>; 1024], t: u32) -> bool
     ensures { result ≡ is_some (slice_index_or parts.now t None) }
 {
     parts[t as usize].is_some()
-}
-
-// A section with relocations of a present section; how many there are.
-pub fn fits(p: u64, h: Header, taken: bool, linked: bool) -> Result<u32, Fault>
-    requires { p + 64 < 18446744073709551616 }
-    ensures { result ≡ answer (first_fault (fit_checks p h taken linked)) (h.size / 24) }
-{
-    if h.kind != 4 {
-        return Err(refusal(Kind::Misshapen, p + 4));
-    }
-    if taken {
-        return Err(refusal(Kind::Misshapen, p + 44));
-    }
-    if !linked {
-        return Err(refusal(Kind::Dangling, p + 40));
-    }
-    table(65535, p, h)
-}
-
-// The place where the number at hand began: here, if no byte of it was read.
-pub fn begun(n: Number, from: u64, here: u64) -> u64
-    ensures { result ≡ (if nat_eq n.taken 0 then here else from) }
-{
-    if n.taken == 0 { here } else { from }
 }
 
 // Marks the section of a symbol.

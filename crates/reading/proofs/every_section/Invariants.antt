@@ -1,7 +1,7 @@
 use Rattle.std.proofs.Common.{◌≡◌, ℕ, List, None}
 use Rattle.checklist.specs.Checks.{Check, first_fault, each}
 use Rattle.elf.specs.declared.Header.{Header}
-use Rattle.rules.specs.Known.{AnswersBy}
+use Rattle.rules.specs.Pass.{AnswersBy}
 use Rattle.rules.specs.Rules.{pass_rule}
 use Rattle.reading.proofs.every_section.Given as goal
 

@@ -3,4 +3,4 @@ use Rattle.reading.proofs.listing.Given as goal
 
 -- what was read and what is left tell all
 abbrev pub invariant-loop-i : goal.invariant-loop-i
-invariant-loop-i l = Scanned l.table.headers.bytes.now l.base l.bytes l.i l.n l.from l.marks
+invariant-loop-i l = Scanned l.symbols.bytes.now l.base l.bytes l.i l.begun l.marks

@@ -10,16 +10,16 @@ use Rattle.reading.proofs.significance.Goals as goal
 
 pub listing_at-requires : goal.listing_at-requires
 listing_at-requires c =
-    let b = c.args.object.table.headers.bytes.now
+    let b = c.args.object.tables.headers.bytes.now
     in let at = only_is significance_kind b c.in-Some.a (sym c.in-Some.is ∙ c.requires)
     in record {
-      below = omega (arith, at.0, c.args.object.table.headers.headed.count_right);
+      below = omega (arith, at.0, c.args.object.tables.headers.headed.count_right);
       inside = extent_is b c.in-Some.a at.0 (λ e. omega (arith, at.1)) (λ e. omega (arith, at.1)) c.args.object.extents;
     }
 
 pub returns : goal.returns
 returns c =
-    let b = c.args.object.table.headers.bytes.now
+    let b = c.args.object.tables.headers.bytes.now
     in let e = sym c.in-Some.is ∙ c.requires
     in let its = listing_of b (Some c.in-Some.a)
     in let read = ok_none (first_fault (item_checks (symbols b).count its)) c.in_ok-marks.marks (map (listed_in b its) (range_with_len 0 1024)) c.in_ok-marks.ensures

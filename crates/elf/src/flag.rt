@@ -1,0 +1,13 @@
+// The flags of a section that a rule names.
+
+pub const WRITE: u64 = 0x1;
+
+pub const ALLOCATE: u64 = 0x2;
+
+pub const MERGE: u64 = 0x10;
+
+pub const LINK_ORDER: u64 = 0x80;
+
+pub const THREAD_LOCAL: u64 = 0x400;
+
+pub const RETAIN: u64 = 0x200000;
