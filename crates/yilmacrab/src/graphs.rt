@@ -1,6 +1,5 @@
 // What is read, an object or a table, and what is said of any section graph.
 use graph::{SectionGraph, relocations_told};
-use model::Target;
 use std::alloc::{AllocError, Global};
 use std::collections::BTreeSet;
 use std::io::Read;
@@ -29,7 +28,10 @@ fn outside_names<G: SectionGraph>(heap: Global, graph: &G) -> Result<usize, Allo
     let mut names = BTreeSet::new(heap);
     for s in 0..graph.count() {
         for j in 0..relocations_told(graph.record_of(s)) {
-            if let Some(Target::Outside(name)) = graph.relocation(s, j).map(|told| told.target) {
+            if let Some(name) = graph
+                .relocation(s, j)
+                .and_then(|told| told.target.outside())
+            {
                 names.insert(name)?;
             }
         }
