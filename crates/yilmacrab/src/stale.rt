@@ -1,12 +1,8 @@
 // A warning for objects whose address-significance list may be stale. strip, objcopy and ld -r copy that list and leave its
 // numbers as they were, but not its link to the symbol table. Whether the object is accepted does not hang on it.
+use elf::kind;
 use field::read;
 use std::io;
-
-// The format's own numbers of kinds; they are open, so no enum holds them.
-const SIGNIFICANT: u32 = 0x6fff4c03;
-
-const SYMBOLS: u32 = 2;
 
 // A field at `place` of section header `i`; none where it runs past the end. No `read_section`: of a header that is cut off, the
 // fields that are there count too.
@@ -25,8 +21,8 @@ fn is_stale(file: &[u8]) -> bool {
     let mut link = None;
     for i in 0..count {
         match header_word(file, table, i, 4) {
-            Some(SYMBOLS) => symbols = Some(u32::from(i)),
-            Some(SIGNIFICANT) => link = header_word(file, table, i, 40),
+            Some(kind::SYMBOL_TABLE) => symbols = Some(u32::from(i)),
+            Some(kind::ADDRESS_SIGNIFICANCE) => link = header_word(file, table, i, 40),
             _ => {}
         }
     }
