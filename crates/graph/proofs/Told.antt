@@ -2,13 +2,17 @@
 use Rattle.std.proofs.Common.{◌≡◌, ℕ, ◌+◌, ◌<◌, ◌≤◌, length, drop, Some, None, Option, sym, refl, ap, ◌∙◌, subst, arith}
 use Rattle.std.specs.List.{slice_get}
 use Rattle.std.proofs.lemmas.List.{drop_all}
-use Rattle.model.specs.Graph.{Body, told_byte, told_record}
-use Rattle.graph.specs.Bytes.{bytes_in, mixed, digest_from, told_size}
+use Rattle.model.specs.Graph.{Body, told_byte, told_relocation, told_record}
+use Rattle.graph.specs.Bytes.{bytes_in, relocations_in, mixed, digest_from, told_size}
 use Rattle.graph.proofs.Places.{drop_nth, nth_none, same_from_places}
 
 pub byte_nth : (o : Option Body) (i : ℕ) → told_byte o i ≡ slice_get (bytes_in o) i
 byte_nth None i = refl
 byte_nth (Some b) i = refl
+
+pub relocation_nth : (o : Option Body) (j : ℕ) → told_relocation o j ≡ slice_get (relocations_in o) j
+relocation_nth None j = refl
+relocation_nth (Some b) j = refl
 
 pub size_length : (o : Option Body) → told_size (told_record o) ≡ length (bytes_in o)
 size_length None = refl

@@ -1,14 +1,14 @@
 -- Texts and their rows: what is accepted, what is read, and where a text is refused.
 use Rattle.std.proofs.Common.{◌≡◌, ℕ, zero, suc, ◌+◌, ◌<◌, ◌≤◌, Bool, true, false, cond, List, [], ◌∷◌, ◌++◌, map, length, get_or, take, drop, Some, None, Ok, Err, Option, Result, sym, refl, ap, ◌∙◌, subst, zero-add, arith}
-use Rattle.std.specs.Option.{option_map}
-use Rattle.std.specs.List.{flat_map, AllByRecursion}
+use Rattle.std.specs.Option.{option_map, option_or}
+use Rattle.std.specs.List.{flat_map, concat, AllByRecursion}
 use Rattle.std.proofs.lemmas.List.{append-nil, length-append}
 use Rattle.fault.specs.declared.Fault.{Fault}
 use Rattle.column.specs.Columns.{columns}
 use Rattle.model.specs.Graph.{Graph}
 use Rattle.model.specs.Laws.{Valid}
 use Rattle.lines.specs.Lines.{lines, row_start, verdict, after, later}
-use Rattle.lines.proofs.Rows.{whole, whole_lines, lines_row, OneRow, one_lines, one_row_ends}
+use Rattle.lines.proofs.Rows.{whole_lines, lines_row, OneRow, one_lines, one_row_ends}
 use Rattle.lines.proofs.Verdicts.{not_before}
 use Rattle.row.specs.declared.Cause.{Cause}
 use Rattle.row.specs.Entry.{Entry, letter, width, numbers, render, Ranged}
@@ -18,7 +18,7 @@ use Rattle.layout.specs.declared.State.{State}
 use Rattle.layout.specs.declared.State.TheVariants.{Start}
 use Rattle.layout.specs.Layout.{entries, text_of, Formed}
 use Rattle.layout.specs.Order.{step, is_done, run, run_on, graph_in}
-use Rattle.layout.specs.Reading.{step_read, step_line, bad_row, kept, entries_in, graph_of, named, absent_in, dangles, dangling_from, bad_row_at, dangling_at, or_else, fault_of}
+use Rattle.layout.specs.Reading.{step_read, step_line, bad_row, kept, entries_in, graph_of, named, absent_in, dangles, dangling_from, bad_row_at, dangling_at, fault_of}
 use Rattle.layout.specs.Verdict.{Verdict, ToldApart}
 use Rattle.layout.proofs.Accepts.{accepts}
 use Rattle.layout.proofs.Only.{only}
@@ -102,7 +102,7 @@ taken (l ∷ ls) q o h = go (read_row l) refl h (λ p k. taken ls p o.1 k)
     go (Ok e) x k deeper = on e (step q e) refl x k deeper
     go (Err c) x k deeper = absurd (let z : ◌≡◌ {A = ℕ} 0 1 = cc in omega arith)
 
-whole_map : (es : List Entry) → whole (map render es) ≡ flat_map render es
+whole_map : (es : List Entry) → concat (map render es) ≡ flat_map render es
 whole_map [] = refl
 whole_map (e ∷ es) = ap (λ (xs : List ℕ). render e ++ xs) (whole_map es)
 
@@ -111,7 +111,7 @@ pub formed_text : (t : List ℕ) → bad_row t ≡ None → (t ≡ text_of (grap
 formed_text t h =
     let k = taken (lines t) Start (one_lines t) h in
     let p = only (entries_in (lines t)) k.ranged k.runs in
-    (sym (whole_lines t) ∙ ap whole k.rows ∙ whole_map (entries_in (lines t)) ∙ ap (flat_map render) p.0, (p.1, p.0))
+    (sym (whole_lines t) ∙ ap concat k.rows ∙ whole_map (entries_in (lines t)) ∙ ap (flat_map render) p.0, (p.1, p.0))
 
 pub formed_table : (g : Graph) → Formed g → (bad_row (text_of g) ≡ None) × ((graph_of (text_of g) ≡ g) × (entries_in (lines (text_of g)) ≡ entries g))
 formed_table g v =
@@ -160,14 +160,14 @@ first_dangling g at (l ∷ ls) p h = go (dangles g (read_row l)) refl h (λ k. f
     go false e k deeper =
         let d = deeper k in (
           suc d.0,
-          d.1 ∙ omega (arith, length-append l (whole (take d.0 ls))),
+          d.1 ∙ omega (arith, length-append l (concat (take d.0 ls))),
           d.2,
           elim [ zero ↦ (λ m. e) | suc j ↦ (λ m. d.3 j (omega arith)) ],
         )
 
 -- the verdict
 
-no_fault : (a b : Option Fault) → or_else a b ≡ None → (a ≡ None) × (b ≡ None)
+no_fault : (a b : Option Fault) → option_or a b ≡ None → (a ≡ None) × (b ≡ None)
 no_fault None b h = (refl, h)
 no_fault (Some f) b h = absurd (let z : ◌≡◌ {A = ℕ} 0 1 = cc in omega arith)
 
@@ -194,7 +194,7 @@ table t g v e =
     let none : bad_row t ≡ None = ap bad_row e ∙ f.0 in
     let aims : AllByRecursion (Aims (graph_of t)) (entries_in (lines t)) =
     subst (λ (h : Graph). AllByRecursion (Aims h) (entries_in (lines t))) (sym same) (subst (AllByRecursion (Aims g)) (sym rows) (aims_from_valid g v)) in (
-      ap (λ (o : Option ℕ). or_else (option_map (λ k. bad_row_at (row_start (lines t) k)) o) (option_map dangling_at (dangling_from (graph_of t) 0 (lines t)))) none
+      ap (λ (o : Option ℕ). option_or (option_map (λ k. bad_row_at (row_start (lines t) k)) o) (option_map dangling_at (dangling_from (graph_of t) 0 (lines t)))) none
           ∙ ap (option_map dangling_at) (none_dangles (graph_of t) 0 (lines t) aims),
       same,
     )
@@ -208,7 +208,7 @@ verdict_stands t =
       not_before = λ j k g v e r. not_before step_line is_done j (lines t) (lines (text_of g)) Start k e (formed_table g v).0 r;
       dangling = λ p none h.
           let d : dangling_from (graph_of t) 0 (lines t) ≡ Some p =
-          dangling_place _ p (ap (λ (o : Option ℕ). or_else (option_map (λ k. bad_row_at (row_start (lines t) k)) o) (option_map dangling_at (dangling_from (graph_of t) 0 (lines t)))) (sym none) ∙ h) in
+          dangling_place _ p (ap (λ (o : Option ℕ). option_or (option_map (λ k. bad_row_at (row_start (lines t) k)) o) (option_map dangling_at (dangling_from (graph_of t) 0 (lines t)))) (sym none) ∙ h) in
           let f = first_dangling (graph_of t) 0 (lines t) p d in
           (f.0, f.1 ∙ zero-add _, f.2, f.3);
     }

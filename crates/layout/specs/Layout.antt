@@ -51,6 +51,11 @@ text_of g = flat_map render (entries g)
 abbrev pub bytes_length : ℕ → ℕ
 bytes_length n = 4 * n + 2 * ((n + 15) / 16)
 
+-- where the row of relocation j of a section with n bytes is, from its first row on: behind that row, which is 74 long, the rows of
+-- the bytes and j rows of 62; where j is the count of its relocations, how long its rows are
+abbrev pub relocation_place : ℕ → ℕ → ℕ
+relocation_place n j = 74 + (bytes_length n + 62 * j)
+
 -- a number that a row may name a section by
 abbrev pub Free : ℕ → Type 0
 Free t = t < 2 ^ 16

@@ -1,6 +1,6 @@
 -- The verdict on a text, and the section graph that it tells.
 use Rattle.std.specs.Prelude.{ℕ, ◌+◌, Bool, false, cond, not, List, [], ◌∷◌, length, is_some, Some, None, Ok, Err, Option, Result}
-use Rattle.std.specs.Option.{option_map}
+use Rattle.std.specs.Option.{option_map, option_or}
 use Rattle.fault.specs.declared.Fault.{Fault}
 use Rattle.fault.specs.declared.Kind.TheVariants.{BadRow, Dangling}
 use Rattle.fault.specs.declared.Layer.TheVariants.{Format}
@@ -67,14 +67,10 @@ bad_row_at p = record { kind = BadRow; place = p; layer = Format }
 abbrev pub dangling_at : ℕ → Fault
 dangling_at p = record { kind = Dangling; place = p; layer = Format }
 
-abbrev pub or_else : Option Fault → Option Fault → Option Fault
-or_else None o = o
-or_else (Some f) o = Some f
-
 -- the refusal of a text, if it is refused: the first row that does not form, at its first byte; then the first row that
 -- names a section which has no row of its own
 abbrev pub fault_of : List ℕ → Option Fault
 fault_of t =
-    or_else
+    option_or
     (option_map (λ k. bad_row_at (row_start (lines t) k)) (bad_row t))
     (option_map dangling_at (dangling_from (graph_of t) 0 (lines t)))

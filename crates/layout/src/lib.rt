@@ -2,10 +2,10 @@
 
 #![tactic(auto)]
 
-ghost use Rattle.std.specs.Prelude.{◌≡◌, ◌<◌, min, if◌then◌else◌, Some, None, nat_eq};
+ghost use Rattle.std.specs.Prelude.{◌≡◌, ◌<◌, ◌≤◌, min, if◌then◌else◌, Some, None, nat_eq};
 ghost use Rattle.row.specs.Entry.{section, relocation, root, end};
 ghost use Rattle.row.specs.Told.{told};
-ghost use Rattle.layout.specs.Layout.{bytes_length};
+ghost use Rattle.layout.specs.Layout.{bytes_length, relocation_place};
 ghost use Rattle.layout.specs.Order.{step, step_start, step_open, opened, settled, after_bytes, is_done};
 ghost use Rattle.layout.specs.Verdict.{ToldApart};
 
@@ -13,7 +13,7 @@ use model::{Record, Relocation};
 use row::Row;
 
 // What is still due between the first row of a table and its last.
-#[derive(Clone, Copy, PartialEq, Eq, Debug)]
+#[derive(Clone, Copy, Default, PartialEq, Eq, Debug)]
 pub struct Due {
     // how many sections there are, absent ones included
     pub sections: u16,
@@ -36,12 +36,8 @@ impl Due {
     {
         Due {
             sections,
-            next: 0,
-            seen: 0,
             roots,
-            size: 0,
-            bytes: 0,
-            relocations: 0,
+            ..Due::default()
         }
     }
 
@@ -171,12 +167,39 @@ impl State {
     }
 }
 
+// How long the rows are, of bytes one with all sixteen.
+pub const HEADER_ROW: usize = 26;
+
+pub const SECTION_ROW: usize = 74;
+
+pub const BYTES_ROW: usize = 66;
+
+pub const RELOCATION_ROW: usize = 62;
+
+pub const ROOT_ROW: usize = 14;
+
+pub const END_ROW: usize = 14;
+
+// Where the size stands in a section's row, and how wide the column of one byte is.
+pub const SIZE_COLUMN: usize = 37;
+
+pub const BYTE_WIDTH: usize = 4;
+
 // How long the rows of `size` bytes are: four columns for each byte, and a letter and byte 10 for each sixteen.
 pub fn bytes_length(size: u16) -> usize
     ensures value { result ≡ bytes_length size }
     ensures bound { result < 1000000 }
 {
-    4 * usize::from(size) + 2 * usize::from(size).div_ceil(16)
+    BYTE_WIDTH * usize::from(size) + 2 * usize::from(size).div_ceil(16)
+}
+
+// Where the row of relocation `j` of a section with `size` bytes is, from its first row on; where `j` is the count of its relocations,
+// how long its rows are.
+pub fn relocation_place(size: u16, j: u16) -> usize
+    ensures value { result ≡ relocation_place size j }
+    ensures bound { result ≤ 5000000 }
+{
+    SECTION_ROW + (bytes_length(size) + RELOCATION_ROW * usize::from(j))
 }
 
 // Graphs with the same table are the same.

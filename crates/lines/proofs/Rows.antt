@@ -1,21 +1,18 @@
 -- A text is its rows, one after another, and a row has byte 10 at its end alone.
 use Rattle.std.proofs.Common.{◌≡◌, ℕ, ◌<◌, Bool, true, false, cond, eqb, List, [], ◌∷◌, ◌++◌, refl, ap, ◌∙◌, arith}
-use Rattle.std.specs.List.{AllByRecursion, flat_map}
+use Rattle.std.specs.List.{AllByRecursion, concat}
 use Rattle.std.proofs.lemmas.Bool.{ne_eqb, eqb-false, cond-false}
 use Rattle.lines.specs.Lines.{lines, grown}
 
-abbrev pub whole : List (List ℕ) → List ℕ
-whole ls = flat_map (λ (l : List ℕ). l) ls
-
-whole_grown : (b : ℕ) (ls : List (List ℕ)) → whole (grown b ls) ≡ b ∷ whole ls
+whole_grown : (b : ℕ) (ls : List (List ℕ)) → concat (grown b ls) ≡ b ∷ concat ls
 whole_grown b [] = refl
 whole_grown b (l ∷ ls) = refl
 
-pub whole_lines : (t : List ℕ) → whole (lines t) ≡ t
+pub whole_lines : (t : List ℕ) → concat (lines t) ≡ t
 whole_lines [] = refl
 whole_lines (b ∷ t) = go (eqb b 10) (whole_lines t)
   where
-    go : (c : Bool) → whole (lines t) ≡ t → whole (cond c ((b ∷ []) ∷ lines t) (grown b (lines t))) ≡ b ∷ t
+    go : (c : Bool) → concat (lines t) ≡ t → concat (cond c ((b ∷ []) ∷ lines t) (grown b (lines t))) ≡ b ∷ t
     go true e = ap (λ (xs : List ℕ). b ∷ xs) e
     go false e = whole_grown b (lines t) ∙ ap (λ (xs : List ℕ). b ∷ xs) e
 

@@ -3,7 +3,7 @@ use Rattle.std.proofs.Common.{◌≡◌, ℕ, zero, suc, ◌+◌, ◌≤◌, Boo
 use Rattle.std.specs.Option.{option_map}
 use Rattle.std.proofs.lemmas.List.{length-append}
 use Rattle.lines.specs.Lines.{verdict, after, later, row_start, place_from, placed_after}
-use Rattle.lines.proofs.Rows.{whole}
+use Rattle.std.specs.List.{concat}
 
 module _ {S : Type 0} (step : S → List ℕ → Option S) (final : S → Bool) where
   -- rows that agree with accepted ones at the front are not refused there
@@ -43,4 +43,4 @@ module _ {S : Type 0} (step : S → List ℕ → Option S) (final : S → Bool) 
         where
           behind : (v : Option ℕ) → option_map (λ k. (at + length l) + row_start ls k) v ≡ option_map (λ k. at + row_start (l ∷ ls) k) (later v)
           behind None = refl
-          behind (Some k) = ap (λ (n : ℕ). Some n) (omega (arith, length-append l (whole (take k ls))))
+          behind (Some k) = ap (λ (n : ℕ). Some n) (omega (arith, length-append l (concat (take k ls))))

@@ -1,6 +1,6 @@
 -- A text cut into its rows, and a reader that takes them one by one.
 use Rattle.std.specs.Prelude.{ℕ, suc, ◌+◌, Bool, cond, List, [], ◌∷◌, length, take, Some, None, Option, ◌==◌}
-use Rattle.std.specs.List.{flat_map}
+use Rattle.std.specs.List.{concat}
 
 -- a byte before the first row
 abbrev pub grown : ℕ → List (List ℕ) → List (List ℕ)
@@ -14,7 +14,7 @@ lines (b ∷ t) = cond (b == 10) ((b ∷ []) ∷ lines t) (grown b (lines t))
 
 -- the place of row k: where the rows before it end
 abbrev pub row_start : List (List ℕ) → ℕ → ℕ
-row_start ls k = length (flat_map (λ (l : List ℕ). l) (take k ls))
+row_start ls k = length (concat (take k ls))
 
 abbrev pub later : Option ℕ → Option ℕ
 later None = None

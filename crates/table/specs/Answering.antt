@@ -1,7 +1,7 @@
 -- The questions to a reader, from what it holds.
 use Rattle.std.specs.Prelude.{◌≡◌, ℕ, true, List, [], drop, Some, None, Option, Result, unwrap_or, slice_index_or, refl}
 use Rattle.std.proofs.Common.{sym, ap, subst, ◌∙◌, ⊎_elim, arith}
-use Rattle.std.specs.Option.{option_map}
+use Rattle.std.specs.Option.{option_map, option_or}
 use Rattle.std.proofs.Math.Seq.{drop-nil}
 use Rattle.std.proofs.lemmas.Bool.{cond-false, le-ltb}
 use Rattle.model.specs.declared.Record.{Record}
@@ -11,7 +11,7 @@ use Rattle.lines.specs.Lines.{lines, row_start}
 use Rattle.row.specs.declared.Cause.{Cause}
 use Rattle.row.specs.Entry.{Entry}
 use Rattle.row.specs.Reading.{read_row}
-use Rattle.layout.specs.Reading.{bad_row, graph_of, bad_row_at, dangling_at, dangling_from, or_else, fault_of}
+use Rattle.layout.specs.Reading.{bad_row, graph_of, bad_row_at, dangling_at, dangling_from, fault_of}
 use Rattle.layout.proofs.Texts.{verdict_stands}
 use Rattle.table.specs.Notes.{starts_of}
 use Rattle.table.specs.Places.{sections_told, roots_told, record_told, rows_from, byte_in, relocation_in, root_in}
@@ -22,7 +22,7 @@ use Rattle.table.specs.Questions.{sections_right, roots_right, none_read, record
 formed_from : (t : List ℕ) → fault_of t ≡ None → bad_row t ≡ None
 formed_from t h = go (bad_row t) h
   where
-    go : (o : Option ℕ) → or_else (option_map (λ k. bad_row_at (row_start (lines t) k)) o) (option_map dangling_at (dangling_from (graph_of t) 0 (lines t))) ≡ None → o ≡ None
+    go : (o : Option ℕ) → option_or (option_map (λ k. bad_row_at (row_start (lines t) k)) o) (option_map dangling_at (dangling_from (graph_of t) 0 (lines t))) ≡ None → o ≡ None
     go None e = refl
     go (Some k) e = absurd (let z : ◌≡◌ {A = ℕ} 0 1 = cc in omega arith)
 

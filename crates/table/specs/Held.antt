@@ -34,6 +34,10 @@ abbrev pub notes_or : Option Fault → List (Option ℕ) → Result (List (Optio
 notes_or None xs = Ok xs
 notes_or (Some f) xs = Err f
 
+abbrev pub noted_after : Result (Unit {0}) Fault → List (Option ℕ) → Result (List (Option ℕ)) Fault
+noted_after (Ok u) xs = Ok xs
+noted_after (Err f) xs = Err f
+
 -- the notes on a text that is accepted, or its refusal
 abbrev pub examined : List ℕ → Result (List (Option ℕ)) Fault
 examined t = notes_or (fault_of t) (starts_of t)

@@ -8,7 +8,8 @@ use Rattle.row.specs.Reading.{read_row}
 use Rattle.layout.specs.declared.State.{State}
 use Rattle.layout.specs.declared.State.TheVariants.{Start}
 use Rattle.layout.specs.Order.{is_done}
-use Rattle.layout.specs.Reading.{step_line, named, bad_row_at}
+use Rattle.layout.specs.Reading.{step_line, named, bad_row_at, dangling_at}
+use Rattle.table.specs.declared.scan.Starts.{Starts}
 
 -- the place of a section's row, at the section's number
 abbrev pub note_entry : Entry → ℕ → List (Option ℕ) → List (Option ℕ)
@@ -32,6 +33,11 @@ noted at (l ∷ ls) xs = noted (at + length l) ls (note (read_row l) at xs)
 abbrev pub no_notes : List (Option ℕ)
 no_notes = replicate 1024 None
 
+-- the starts that a walk answered
+abbrev pub starts_in : Result Starts Fault → Result (List (Option ℕ)) Fault
+starts_in (Ok x) = Ok x.places
+starts_in (Err f) = Err f
+
 abbrev pub starts_of : List ℕ → List (Option ℕ)
 starts_of t = noted 0 (lines t) no_notes
 
@@ -53,11 +59,11 @@ abbrev pub unnoted : List (Option ℕ) → Option ℕ → Bool
 unnoted xs None = false
 unnoted xs (Some t) = not (is_some (slice_index_or xs t None))
 
-abbrev pub loose_on : List (Option ℕ) → ℕ → Option ℕ → Result Entry Cause → Option ℕ
-loose_on xs at rest (Ok e) = cond (unnoted xs (named e)) (Some at) rest
-loose_on xs at rest (Err c) = None
+abbrev pub target_on : List (Option ℕ) → ℕ → Result (Unit {0}) Fault → Result Entry Cause → Result (Unit {0}) Fault
+target_on xs at rest (Ok e) = cond (unnoted xs (named e)) (Err (dangling_at at)) rest
+target_on xs at rest (Err c) = Err (bad_row_at at)
 
--- the place of the first row from `at` on that names a section without a start
-abbrev pub loose_from : List (Option ℕ) → ℕ → List (List ℕ) → Option ℕ
-loose_from xs at [] = None
-loose_from xs at (l ∷ ls) = loose_on xs at (loose_from xs (at + length l) ls) (read_row l)
+-- the refusal of the first row from `at` on that does not form or that names a section without a start, if there is one
+abbrev pub targets_from : List (Option ℕ) → ℕ → List (List ℕ) → Result (Unit {0}) Fault
+targets_from xs at [] = Ok tt
+targets_from xs at (l ∷ ls) = target_on xs at (targets_from xs (at + length l) ls) (read_row l)

@@ -1,7 +1,7 @@
 -- What a reader holds and answers after it has read a text.
 use Rattle.std.specs.Prelude.{◌≡◌, ℕ, ◌+◌, Bool, true, false, cond, not, ◌⊎◌, List, [], ◌∷◌, length, is_some, Some, None, Ok, Err, Option, Result, refl}
 use Rattle.std.proofs.Common.{sym, ap, subst, ◌∙◌, inl, inr, arith, zero-add}
-use Rattle.std.specs.Option.{option_map}
+use Rattle.std.specs.Option.{option_map, option_or}
 use Rattle.std.proofs.lemmas.Bool.{eqb-true, eq-eqb, and_parts, and_from}
 use Rattle.fault.specs.declared.Fault.{Fault}
 use Rattle.lines.specs.Lines.{lines, row_start, place_from, placed_after}
@@ -10,10 +10,10 @@ use Rattle.row.specs.Reading.{read_row}
 use Rattle.layout.specs.declared.State.{State}
 use Rattle.layout.specs.declared.State.TheVariants.{Start}
 use Rattle.layout.specs.Order.{is_done}
-use Rattle.layout.specs.Reading.{step_line, bad_row, graph_of, dangling_from, bad_row_at, dangling_at, or_else, fault_of}
-use Rattle.table.specs.Notes.{note, noted, no_notes, starts_of, scan_from, scan_after, scanned, loose_from}
-use Rattle.table.specs.Held.{accepted, same_start, same_starts, held, notes_or, examined}
-use Rattle.table.specs.Questions.{loose_right}
+use Rattle.layout.specs.Reading.{step_line, bad_row, graph_of, dangling_from, bad_row_at, dangling_at, fault_of}
+use Rattle.table.specs.Notes.{note, noted, no_notes, starts_of, scan_from, scan_after, scanned, targets_from}
+use Rattle.table.specs.Held.{accepted, same_start, same_starts, held, outcome, notes_or, noted_after, examined}
+use Rattle.table.specs.Questions.{targets_right}
 
 -- the walk notes all, or refuses at the place of the verdict
 abbrev scan_result : Option ℕ → List (Option ℕ) → Result (List (Option ℕ)) Fault
@@ -54,15 +54,21 @@ scanned_err t f h = go (bad_row t) refl (sym (scanned_is t) ∙ h)
     go None b e = absurd (let z : ◌≡◌ {A = ℕ} 0 1 = cc in omega arith)
     go (Some k) b e =
         let same : bad_row_at (0 + row_start (lines t) k) ≡ f = cc in
-        ap (λ (o : Option ℕ). notes_or (or_else (option_map (λ k. bad_row_at (row_start (lines t) k)) o) (option_map dangling_at (dangling_from (graph_of t) 0 (lines t)))) (starts_of t)) b
+        ap (λ (o : Option ℕ). notes_or (option_or (option_map (λ k. bad_row_at (row_start (lines t) k)) o) (option_map dangling_at (dangling_from (graph_of t) 0 (lines t)))) (starts_of t)) b
         ∙ ap Err (ap bad_row_at (sym (zero-add (row_start (lines t) k))) ∙ same)
 
--- past the walk, the rows that name missing sections decide
-pub examined_formed : (t : List ℕ) (o : Option ℕ) → bad_row t ≡ None → o ≡ loose_from (starts_of t) 0 (lines t)
-    → examined t ≡ notes_or (option_map dangling_at o) (starts_of t)
-examined_formed t o b e =
-    ap (λ (v : Option ℕ). notes_or (or_else (option_map (λ k. bad_row_at (row_start (lines t) k)) v) (option_map dangling_at (dangling_from (graph_of t) 0 (lines t)))) (starts_of t)) b
-    ∙ ap (λ (v : Option ℕ). notes_or (option_map dangling_at v) (starts_of t)) (sym (e ∙ loose_right t b))
+-- past the first walk, the second decides
+
+outcome_noted : (o : Option Fault) (xs : List (Option ℕ)) → notes_or o xs ≡ noted_after (outcome o) xs
+outcome_noted None xs = refl
+outcome_noted (Some f) xs = refl
+
+examined_formed : (t : List ℕ) (r : Result (Unit {0}) Fault) → bad_row t ≡ None → r ≡ targets_from (starts_of t) 0 (lines t)
+    → examined t ≡ noted_after r (starts_of t)
+examined_formed t r b e =
+    ap (λ (v : Option ℕ). notes_or (option_or (option_map (λ k. bad_row_at (row_start (lines t) k)) v) (option_map dangling_at (dangling_from (graph_of t) 0 (lines t)))) (starts_of t)) b
+    ∙ outcome_noted (option_map dangling_at (dangling_from (graph_of t) 0 (lines t))) (starts_of t)
+    ∙ ap (λ (v : Result (Unit {0}) Fault). noted_after v (starts_of t)) (sym (e ∙ targets_right t b))
 
 -- what is held
 
@@ -127,9 +133,9 @@ examined_err t f h = go (fault_of t) h
     go None e = absurd (let z : ◌≡◌ {A = ℕ} 0 1 = cc in omega arith)
     go (Some e) k = let same : e ≡ f = cc in ap (λ (x : Fault). Some x) same
 
--- what the second walk found, where the notes are those of the first
-pub examined_loose : (t : List ℕ) (xs : List (Option ℕ)) (o : Option ℕ) → scanned t ≡ Ok xs → o ≡ loose_from xs 0 (lines t) → examined t ≡ notes_or (option_map dangling_at o) xs
-examined_loose t xs o h e =
+-- what the second walk answered, where the notes are those of the first
+pub examined_targets : (t : List ℕ) (xs : List (Option ℕ)) (r : Result (Unit {0}) Fault) → scanned t ≡ Ok xs → r ≡ targets_from xs 0 (lines t) → examined t ≡ noted_after r xs
+examined_targets t xs r h e =
     let p = scanned_ok t xs h in
-    examined_formed t o p.0 (e ∙ ap (λ (ys : List (Option ℕ)). loose_from ys 0 (lines t)) p.1)
-    ∙ ap (notes_or (option_map dangling_at o)) (sym p.1)
+    examined_formed t r p.0 (e ∙ ap (λ (ys : List (Option ℕ)). targets_from ys 0 (lines t)) p.1)
+    ∙ ap (noted_after r) (sym p.1)

@@ -6,7 +6,7 @@ use Rattle.model.specs.declared.Relocation.{Relocation}
 use Rattle.row.specs.declared.Cause.{Cause}
 use Rattle.row.specs.Entry.{Entry, header, section, bytes, relocation, root, end}
 use Rattle.row.specs.Reading.{read_row}
-use Rattle.layout.specs.Layout.{bytes_length}
+use Rattle.layout.specs.Layout.{relocation_place}
 
 -- the numbers of the first row: how many sections, and how many roots
 abbrev pub sections_told : Result Entry Cause → ℕ
@@ -62,10 +62,6 @@ rows_from t (Some p) = drop p t
 -- where the column of byte i is, from the start of a section's row: 74 is the length of that row
 abbrev pub byte_place : ℕ → ℕ
 byte_place i = 74 + (66 * (i / 16) + (1 + 4 * (i % 16)))
-
--- where the row of relocation j is, behind the rows of n bytes
-abbrev pub relocation_place : ℕ → ℕ → ℕ
-relocation_place n j = (74 + bytes_length n) + 62 * j
 
 -- the byte that a column holds
 abbrev pub byte_told : Option ℤ → Option ℕ

@@ -1,7 +1,9 @@
 -- Every question is answered by the graph that the text tells.
-use Rattle.std.specs.Prelude.{◌≡◌, ℕ, ◌+◌, ◌-◌, ◌*◌, ◌^◌, ◌<◌, ◌≤◌, Bool, cond, not, ◌⊎◌, List, [], ◌∷◌, ◌++◌, map, length, take, drop, ℤ, pos, is_some, Some, None, Err, Option, Result, unwrap_or, nat_lt, slice_index, slice_index_or, refl}
+use Rattle.std.specs.Prelude.{◌≡◌, ℕ, ◌+◌, ◌-◌, ◌*◌, ◌^◌, ◌<◌, ◌≤◌, Bool, cond, true, false, not, ◌⊎◌, List, [], ◌∷◌, ◌++◌, map, length, take, drop, ℤ, pos, is_some, Some, None, Err, Option, Result, unwrap_or, nat_lt, slice_index, slice_index_or, refl}
 use Rattle.std.proofs.Common.{sym, ap, subst, ◌∙◌, inl, inr, arith, zero-add}
 use Rattle.std.specs.List.{slice_get, AllByRecursion}
+use Rattle.std.specs.Option.{option_map}
+use Rattle.fault.specs.declared.Fault.{Fault}
 use Rattle.std.proofs.lemmas.List.{append_assoc, get_or-replicate, get_or_past}
 use Rattle.std.proofs.ByRecursion.{All-get_or, All-weaker}
 use Rattle.std.proofs.lemmas.Option.{slice_get-get_or, slice_get_past}
@@ -20,13 +22,14 @@ use Rattle.row.specs.Entry.{Entry, header, section, relocation, end, numbers, re
 use Rattle.row.specs.Reading.{read_row}
 use Rattle.row.proofs.Rows.{fits}
 use Rattle.row_part.proofs.Parts.{Fits}
-use Rattle.layout.specs.Layout.{with_relocations, with_section, with_sections, with_roots, present_count, bytes_length, entries, text_of, Formed}
-use Rattle.layout.specs.Reading.{bad_row, graph_of, named, absent_in, dangles, dangling_from}
+use Rattle.layout.specs.Layout.{with_relocations, with_section, with_sections, with_roots, present_count, bytes_length, relocation_place, entries, text_of, Formed}
+use Rattle.layout.specs.Reading.{bad_row, graph_of, named, absent_in, dangles, dangling_from, dangling_at}
 use Rattle.layout.proofs.Texts.{row_itself, lines_text, formed_text}
 use Rattle.layout.proofs.Ranges.{ranged_entries, count_below}
 use Rattle.layout.proofs.Aims.{present_below}
-use Rattle.table.specs.Notes.{note, noted, no_notes, starts_of, unnoted, loose_on, loose_from}
-use Rattle.table.specs.Places.{sections_told, roots_told, record_told, relocation_told, root_told, rows_from, byte_place, relocation_place, byte_told, size_told, byte_in, relocation_in, root_in}
+use Rattle.table.specs.Notes.{note, noted, no_notes, starts_of, unnoted, target_on, targets_from}
+use Rattle.table.specs.Held.{outcome}
+use Rattle.table.specs.Places.{sections_told, roots_told, record_told, relocation_told, root_told, rows_from, byte_place, byte_told, size_told, byte_in, relocation_in, root_in}
 use Rattle.table.specs.Spots.{Stands, stands_next, notes, Spot, sections_noted, past_sections}
 use Rattle.table.specs.Distances.{stands_read, stands_after, past_bytes, byte_spot, relocation_spot, root_spot, roots_place}
 
@@ -194,6 +197,7 @@ module _ (t : List ℕ) (formed : bad_row t ≡ None) where
           absurd (let z : ◌≡◌ {A = ℕ} 0 1 = cc in omega arith)
       go (Some r) f (inl l) =
           ap (λ (c : Bool). cond c (relocation_told (read_row (drop (relocation_place (length b.bytes) j) u))) None) (lt-ltb j (length b.relocations) l)
+          ∙ ap (λ (p : ℕ). relocation_told (read_row (drop p u))) (let p : relocation_place (length b.bytes) j ≡ (74 + bytes_length (length b.bytes)) + 62 * j = omega arith in p)
           ∙ ap relocation_told (relocation_spot u (74 + bytes_length (length b.bytes)) b.relocations h.0 j r (relocations_ranged s b e) f there)
 
   pub relocation_right : (s j : ℕ) → relocation_in (rows_from t (slice_index_or (starts_of t) s None)) (told_record (section_of (graph_of t) s)) j ≡ told_relocation (section_of (graph_of t) s) j
@@ -237,16 +241,23 @@ module _ (t : List ℕ) (formed : bad_row t ≡ None) where
   unnoted_tells None = refl
   unnoted_tells (Some s) = start_tells (section_of (graph_of t) s) s (slice_index_or (starts_of t) s None) (spot_at s)
 
-  loose_rows : (at : ℕ) (es : List Entry) → AllByRecursion Ranged es → loose_from (starts_of t) at (map render es) ≡ dangling_from (graph_of t) at (map render es)
-  loose_rows at [] r = refl
-  loose_rows at (e ∷ es) r =
-      ap (loose_on (starts_of t) at (loose_from (starts_of t) (at + length (render e)) (map render es))) (row_itself e r.0)
-      ∙ ap (λ (b : Bool). cond b (Some at) (loose_from (starts_of t) (at + length (render e)) (map render es))) (unnoted_tells (named e))
-      ∙ ap (cond (absent_in (graph_of t) (named e)) (Some at)) (loose_rows (at + length (render e)) es r.1)
-      ∙ ap (λ (x : Result Entry Cause). cond (dangles (graph_of t) x) (Some at) (dangling_from (graph_of t) (at + length (render e)) (map render es))) (sym (row_itself e r.0))
+  targets_rows : (at : ℕ) (es : List Entry) → AllByRecursion Ranged es → targets_from (starts_of t) at (map render es) ≡ outcome (option_map dangling_at (dangling_from (graph_of t) at (map render es)))
+  targets_rows at [] r = refl
+  targets_rows at (e ∷ es) r =
+      let more : Result (Unit {0}) Fault = targets_from (starts_of t) (at + length (render e)) (map render es) in
+      let rest : Option ℕ = dangling_from (graph_of t) (at + length (render e)) (map render es) in
+      ap (target_on (starts_of t) at more) (row_itself e r.0)
+      ∙ ap (λ (b : Bool). cond b (Err (dangling_at at)) more) (unnoted_tells (named e))
+      ∙ go (absent_in (graph_of t) (named e)) more rest (targets_rows (at + length (render e)) es r.1)
+      ∙ ap (λ (x : Result Entry Cause). outcome (option_map dangling_at (cond (dangles (graph_of t) x) (Some at) rest))) (sym (row_itself e r.0))
+    where
+      go : (b : Bool) (more : Result (Unit {0}) Fault) (rest : Option ℕ) → more ≡ outcome (option_map dangling_at rest)
+          → cond b (Err (dangling_at at)) more ≡ outcome (option_map dangling_at (cond b (Some at) rest))
+      go true more rest h = refl
+      go false more rest h = h
 
-  pub loose_right : loose_from (starts_of t) 0 (lines t) ≡ dangling_from (graph_of t) 0 (lines t)
-  loose_right =
-      ap (loose_from (starts_of t) 0) rows
-      ∙ loose_rows 0 (entries (graph_of t)) (ranged_entries (graph_of t) laws)
-      ∙ ap (dangling_from (graph_of t) 0) (sym rows)
+  pub targets_right : targets_from (starts_of t) 0 (lines t) ≡ outcome (option_map dangling_at (dangling_from (graph_of t) 0 (lines t)))
+  targets_right =
+      ap (targets_from (starts_of t) 0) rows
+      ∙ targets_rows 0 (entries (graph_of t)) (ranged_entries (graph_of t) laws)
+      ∙ ap (λ (ls : List (List ℕ)). outcome (option_map dangling_at (dangling_from (graph_of t) 0 ls))) (sym rows)

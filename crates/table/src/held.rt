@@ -11,5 +11,5 @@ use crate::scan::Starts;
 pub struct Table {
     text: Vec<u8>,
     starts: Starts,
-    ghost fit: { held text.items starts ≡ true },
+    ghost fit: { held text.items starts.places ≡ true },
 }

@@ -6,7 +6,9 @@ ghost use Rattle.table.specs.Places.{sections_told, roots_told, record_told, rel
 ghost use Rattle.table.specs.Places.{byte_told, size_told, byte_in, relocation_in, root_in};
 
 use column::read_column;
-use layout::bytes_length;
+use layout::{
+    BYTE_WIDTH, BYTES_ROW, END_ROW, ROOT_ROW, SECTION_ROW, SIZE_COLUMN, relocation_place,
+};
 use model::{Record, Relocation};
 use row::{Row, read_row};
 
@@ -81,14 +83,14 @@ impl<'a> SectionRows<'a> {
     fn size(&self) -> Option<u16>
         ensures { result ≡ size_told (read_column (take 12 (drop 37 self.now.text.now))) }
     {
-        u16::try_from(self.column(37, 12)?).ok()
+        u16::try_from(self.column(SIZE_COLUMN, 12)?).ok()
     }
 
     // The byte in the four columns from a place on.
     fn byte_at(&self, at: usize) -> Option<u8>
         ensures { result ≡ byte_told (read_column (take 4 (drop at self.now.text.now))) }
     {
-        u8::try_from(self.column(at, 4)?).ok()
+        u8::try_from(self.column(at, BYTE_WIDTH)?).ok()
     }
 
     // Byte `i` of the section.
@@ -100,7 +102,7 @@ impl<'a> SectionRows<'a> {
         }
         let row = usize::from(i / 16);
         let column = usize::from(i % 16);
-        self.byte_at(74 + (66 * row + (1 + 4 * column)))
+        self.byte_at(SECTION_ROW + (BYTES_ROW * row + (1 + BYTE_WIDTH * column)))
     }
 
     fn relocation_at(&self, at: usize) -> Option<Relocation>
@@ -120,7 +122,7 @@ impl<'a> SectionRows<'a> {
         if j >= section.relocations {
             return None;
         }
-        self.relocation_at((74 + bytes_length(section.size)) + 62 * usize::from(j))
+        self.relocation_at(relocation_place(section.size, j))
     }
 }
 
@@ -133,13 +135,14 @@ fn root_at(text: &[u8], at: usize) -> Option<u16>
     Some(section)
 }
 
-// Root `j` of `count`, whose rows are the last but one of the text.
-pub(crate) fn root_in(text: &[u8], count: u16, j: u16) -> Option<u16>
-    ensures { result ≡ root_in text.now count j }
+// Root `j`: the rows of the roots are the last but one of the text.
+pub(crate) fn root_in(text: &[u8], j: u16) -> Option<u16>
+    ensures { result ≡ root_in text.now (roots_told (read_row text.now)) j }
 {
+    let count = told_counts(text).roots;
     if j >= count {
         return None;
     }
-    let left = 14 * (usize::from(count - j) + 1);
+    let left = ROOT_ROW * usize::from(count - j) + END_ROW;
     root_at(text, text.len().saturating_sub(left))
 }

@@ -1,5 +1,5 @@
 -- How long the parts of a table's text are.
-use Rattle.std.proofs.Common.{◌≡◌, ℕ, zero, suc, ◌+◌, ◌-◌, ◌*◌, ◌<◌, ◌≤◌, true, false, ◌⊎◌, List, [], ◌∷◌, length, get_or, take, drop, is_some, Some, None, Option, sym, refl, ap, ◌∙◌, inl, inr, zero-add, arith}
+use Rattle.std.proofs.Common.{◌≡◌, ℕ, zero, suc, ◌+◌, ◌-◌, ◌*◌, ◌<◌, ◌≤◌, cond, ◌⊎◌, List, [], ◌∷◌, length, get_or, take, drop, is_some, Some, None, Option, sym, refl, ap, ◌∙◌, inl, inr, zero-add, arith}
 use Rattle.std.specs.List.{flat_map, range_with_len, sum_by, AllByRecursion}
 use Rattle.std.proofs.lemmas.List.{length-append, length-take, length-drop, drop_more, drop_all}
 use Rattle.std.proofs.lemmas.List.Sums.{sum_by-cons}
@@ -80,7 +80,7 @@ roots_rows [] rest = omega arith
 roots_rows (t ∷ ts) rest = omega (arith, roots_rows ts rest)
 
 -- the length of a table, from its sections' and the count of its roots
-pub table_length : (g : Graph) → Valid g → sections_length g.sections + (14 * length g.roots + 40) ≡ length (text_of g)
+pub table_length : (g : Graph) → Valid g → 26 + sections_length g.sections + 14 * length g.roots + 14 ≡ length (text_of g)
 table_length g v =
     let last : List Entry = end (present_count g.sections) ∷ [] in
     omega (
@@ -101,49 +101,32 @@ told_length (Some r) = record_length r
 abbrev pub length_at : List (Option Body) → ℕ → ℕ
 length_at bs s = told_length (told_record (get_or bs s None))
 
-length_more : (bs : List (Option Body)) (s : ℕ) → s < length bs → sections_length (drop s bs) ≡ length_at bs s + sections_length (drop (s + 1) bs)
+-- what is added section by section is found by a sum over their numbers
+added : (total : List (Option Body) → ℕ) (each : Option Body → ℕ)
+    → total [] ≡ 0
+    → ((b : Option Body) (bs : List (Option Body)) → total (b ∷ bs) ≡ each b + total bs)
+    → (bs : List (Option Body)) (n s : ℕ) → s + n ≡ length bs → sum_by (λ k. each (get_or bs k None)) (range_with_len s n) ≡ total (drop s bs)
+added total each none more bs zero s e = sym (ap total (drop_all s bs (omega arith)) ∙ none)
+added total each none more bs (suc n) s e =
+    sum_by-cons (λ k. each (get_or bs k None)) s (range_with_len (s + 1) n)
+    ∙ ap (λ x. each (get_or bs s None) + x) (added total each none more bs n (s + 1) (omega arith))
+    ∙ sym (ap total (drop_more bs s None (omega arith)) ∙ more (get_or bs s None) (drop (s + 1) bs))
+
+pub lengths_added : (bs : List (Option Body)) (n : ℕ) → n ≡ length bs → sum_by (length_at bs) (range_with_len 0 n) ≡ sections_length bs
 unfolding sections_length
-length_more bs s low = ap sections_length (drop_more bs s None low) ∙ go (get_or bs s None)
+lengths_added bs n e = added sections_length (λ b. told_length (told_record b)) refl more bs n 0 (omega arith)
   where
-    go : (b : Option Body) → sections_length (b ∷ drop (s + 1) bs) ≡ told_length (told_record b) + sections_length (drop (s + 1) bs)
-    go None = sym (zero-add (sections_length (drop (s + 1) bs)))
-    go (Some b) = refl
+    more : (b : Option Body) (rest : List (Option Body)) → sections_length (b ∷ rest) ≡ told_length (told_record b) + sections_length rest
+    more None rest = sym (zero-add (sections_length rest))
+    more (Some b) rest = refl
 
-length_all : (bs : List (Option Body)) (s : ℕ) → length bs ≤ s → sections_length (drop s bs) ≡ 0
-unfolding sections_length
-length_all bs s h = ap sections_length (drop_all s bs h)
+-- whether section s is present, as a number
+abbrev pub present_at : List (Option Body) → ℕ → ℕ
+present_at bs s = cond (is_some (told_record (get_or bs s None))) 1 0
 
--- the lengths of all of them, added
-pub lengths_added : (bs : List (Option Body)) (n s : ℕ) → s + n ≡ length bs → sum_by (length_at bs) (range_with_len s n) ≡ sections_length (drop s bs)
-lengths_added bs zero s e = sym (length_all bs s (omega arith))
-lengths_added bs (suc n) s e =
-    sum_by-cons (length_at bs) s (range_with_len (s + 1) n)
-    ∙ ap (λ x. length_at bs s + x) (lengths_added bs n (s + 1) (omega arith))
-    ∙ sym (length_more bs s (omega arith))
-
--- how many sections are present
-
-pub count_more : (bs : List (Option Body)) (s : ℕ) (o : Option Record)
-    → s < length bs
-    → o ≡ told_record (get_or bs s None)
-    → is_some o ≡ true
-    → present_count (drop s bs) ≡ suc (present_count (drop (s + 1) bs))
-count_more bs s o low e is = ap present_count (drop_more bs s None low) ∙ go (get_or bs s None) (ap is_some (sym e) ∙ is)
+pub present_added : (bs : List (Option Body)) (n : ℕ) → n ≡ length bs → sum_by (present_at bs) (range_with_len 0 n) ≡ present_count bs
+present_added bs n e = added present_count (λ b. cond (is_some (told_record b)) 1 0) refl more bs n 0 (omega arith)
   where
-    go : (b : Option Body) → is_some (told_record b) ≡ true → present_count (b ∷ drop (s + 1) bs) ≡ suc (present_count (drop (s + 1) bs))
-    go None h = absurd (let z : ◌≡◌ {A = ℕ} 0 1 = cc in omega arith)
-    go (Some b) h = refl
-
-pub count_same : (bs : List (Option Body)) (s : ℕ) (o : Option Record)
-    → s < length bs
-    → o ≡ told_record (get_or bs s None)
-    → is_some o ≡ false
-    → present_count (drop s bs) ≡ present_count (drop (s + 1) bs)
-count_same bs s o low e is = ap present_count (drop_more bs s None low) ∙ go (get_or bs s None) (ap is_some (sym e) ∙ is)
-  where
-    go : (b : Option Body) → is_some (told_record b) ≡ false → present_count (b ∷ drop (s + 1) bs) ≡ present_count (drop (s + 1) bs)
-    go None h = refl
-    go (Some b) h = absurd (let z : ◌≡◌ {A = ℕ} 0 1 = cc in omega arith)
-
-pub count_all : (bs : List (Option Body)) (s : ℕ) → length bs ≤ s → present_count (drop s bs) ≡ 0
-count_all bs s h = ap present_count (drop_all s bs h)
+    more : (b : Option Body) (rest : List (Option Body)) → present_count (b ∷ rest) ≡ cond (is_some (told_record b)) 1 0 + present_count rest
+    more None rest = omega arith
+    more (Some b) rest = omega arith

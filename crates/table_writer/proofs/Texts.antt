@@ -5,24 +5,21 @@ use Rattle.std.specs.Fn.{Called, Mut}
 use Rattle.std.specs.Int.{div_ceil}
 use Rattle.std.specs.List.{flat_map, slice_get}
 use Rattle.std.proofs.lemmas.List.{append-nil, get_or-take, get_or-drop, drop_more, drop_all, drop-drop, length-take, length-drop}
-use Rattle.std.proofs.lemmas.Grind.{same_number_lists}
-use Rattle.std.proofs.lemmas.Option.{slice_get-get_or}
+use Rattle.std.proofs.lemmas.Grind.{same_number_lists, flat_map-append}
+use Rattle.std.proofs.lemmas.Option.{slice_get-get_or, get_or_from_slice_get}
 use Rattle.std.proofs.lemmas.Bool.{cases_lt}
 use Rattle.model.specs.declared.Record.{Record}
 use Rattle.model.specs.declared.Relocation.{Relocation}
 use Rattle.model.specs.declared.Target.TheVariants.{Outside}
-use Rattle.model.specs.Graph.{Body, Graph, record_in, told_record, told_byte, told_relocation}
+use Rattle.model.specs.Graph.{Body, Graph, record_in, told_record, told_relocation}
 use Rattle.row.specs.Entry.{Entry, header, section, bytes, relocation, root, end, render}
 use Rattle.layout.specs.Layout.{with_bytes, with_relocations, with_section, with_sections, with_roots, present_count, text_of}
 use Rattle.layout.proofs.Only.{with_bytes_some}
+use Rattle.graph.proofs.Told.{relocation_nth}
 use Rattle.graph.specs.Bytes.{bytes_in, relocations_in}
 use Rattle.table_writer.specs.Texts.{byte_row, relocation_row, root_row, bytes_text, relocations_text, section_text, sections_text, roots_text}
 use Rattle.table_writer.specs.Writes.{pieces}
 use Rattle.table_writer.proofs.Writing.{in_pieces}
-
-joined_append : (xs ys : List Entry) → flat_map render (xs ++ ys) ≡ flat_map render xs ++ flat_map render ys
-joined_append [] ys = refl
-joined_append (x ∷ xs) ys = ap (λ t. render x ++ t) (joined_append xs ys) ∙ sym (append_assoc (render x) (flat_map render xs) (flat_map render ys))
 
 -- further rows come behind
 
@@ -81,10 +78,8 @@ relocations_more : (rs : List Relocation) (j : ℕ) (r : Relocation)
     → relocations_text (drop j rs) ≡ render (relocation r) ++ relocations_text (drop (j + 1) rs)
 unfolding relocations_text
 relocations_more rs j r low e =
-    let found = slice_get-get_or rs j r low in
-    let same : get_or rs j r ≡ r = cc in
     ap (λ xs. flat_map render (with_relocations xs [])) (drop_more rs j r low)
-    ∙ ap (λ x. render (relocation x) ++ flat_map render (with_relocations (drop (j + 1) rs) [])) same
+    ∙ ap (λ x. render (relocation x) ++ flat_map render (with_relocations (drop (j + 1) rs) [])) (get_or_from_slice_get rs j r r e)
 
 relocations_all : (rs : List Relocation) (j : ℕ) → length rs ≤ j → relocations_text (drop j rs) ≡ []
 unfolding relocations_text
@@ -96,10 +91,8 @@ roots_more : (ts : List ℕ) (j t : ℕ)
     → roots_text (drop j ts) ≡ render (root t) ++ roots_text (drop (j + 1) ts)
 unfolding roots_text
 roots_more ts j t low e =
-    let found = slice_get-get_or ts j t low in
-    let same : get_or ts j t ≡ t = cc in
     ap (λ xs. flat_map render (with_roots xs [])) (drop_more ts j t low)
-    ∙ ap (λ x. render (root x) ++ flat_map render (with_roots (drop (j + 1) ts) [])) same
+    ∙ ap (λ x. render (root x) ++ flat_map render (with_roots (drop (j + 1) ts) [])) (get_or_from_slice_get ts j t t e)
 
 roots_all : (ts : List ℕ) (j : ℕ) → length ts ≤ j → roots_text (drop j ts) ≡ []
 unfolding roots_text
@@ -113,7 +106,7 @@ unfolding section_text bytes_text relocations_text
 section_parts s b =
     let rs : List Entry = with_relocations b.relocations [] in
     ap (λ es. render (section s (record_in b)) ++ flat_map render es) (bytes_behind (length b.bytes) b.bytes rs)
-    ∙ ap (λ t. render (section s (record_in b)) ++ t) (joined_append (with_bytes (length b.bytes) b.bytes []) rs)
+    ∙ ap (λ t. render (section s (record_in b)) ++ t) (flat_map-append render (with_bytes (length b.bytes) b.bytes []) rs)
 
 -- the sections, one after another
 
@@ -122,7 +115,7 @@ unfolding section_text sections_text
 sections_first s None bs = refl
 sections_first s (Some b) bs =
     ap (flat_map render) (section_behind s b (with_sections (suc s) bs []))
-    ∙ joined_append (with_section s b []) (with_sections (suc s) bs [])
+    ∙ flat_map-append render (with_section s b []) (with_sections (suc s) bs [])
 
 sections_more : (bs : List (Option Body)) (s : ℕ)
     → s < length bs
@@ -176,19 +169,10 @@ table_parts g n k present en ek ep =
     ∙ append_assoc (h ++ body) tail (render (end (present_count g.sections)))
     ∙ append_assoc h body (tail ++ render (end (present_count g.sections)))
     ∙ ap (λ t. h ++ (body ++ (tail ++ t))) (sym (append-nil (render (end (present_count g.sections)))))
-    ∙ ap (λ t. h ++ (body ++ t)) (sym (joined_append (with_roots g.roots []) last))
+    ∙ ap (λ t. h ++ (body ++ t)) (sym (flat_map-append render (with_roots g.roots []) last))
     ∙ ap (λ es. h ++ (body ++ flat_map render es)) (sym (roots_behind g.roots last))
-    ∙ ap (λ t. h ++ t) (sym (joined_append (with_sections 0 g.sections []) (with_roots g.roots last)))
+    ∙ ap (λ t. h ++ t) (sym (flat_map-append render (with_sections 0 g.sections []) (with_roots g.roots last)))
     ∙ ap (λ es. h ++ flat_map render es) (sym (sections_behind 0 g.sections (with_roots g.roots last)))
-
--- what the questions tell of a section's relocations
-told_relocation_in : (o : Option Body) (j : ℕ) → told_relocation o j ≡ slice_get (relocations_in o) j
-told_relocation_in None j = refl
-told_relocation_in (Some b) j = refl
-
-pub told_byte_in : (o : Option Body) (i : ℕ) → told_byte o i ≡ slice_get (bytes_in o) i
-told_byte_in None i = refl
-told_byte_in (Some b) i = refl
 
 -- the texts in pieces: one for each row, and one for each section
 
@@ -201,7 +185,7 @@ bytes_pieces bs n e =
 pub relocations_pieces : (o : Option Body) → pieces (λ j. relocation_row (told_relocation o j)) (length (relocations_in o)) ≡ relocations_text (relocations_in o)
 relocations_pieces o =
     in_pieces (λ j. relocation_row (told_relocation o j)) (λ j. relocations_text (drop j rs)) (length rs)
-    (λ j low. relocations_more rs j (get_or rs j unset) low (found j low) ∙ ap (λ r. relocation_row r ++ relocations_text (drop (j + 1) rs)) (sym (told_relocation_in o j ∙ found j low)))
+    (λ j low. relocations_more rs j (get_or rs j unset) low (found j low) ∙ ap (λ r. relocation_row r ++ relocations_text (drop (j + 1) rs)) (sym (relocation_nth o j ∙ found j low)))
     (relocations_all rs (length rs) (omega arith))
   where
     rs : List Relocation

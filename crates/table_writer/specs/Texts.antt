@@ -5,7 +5,7 @@ use Rattle.model.specs.declared.Record.{Record}
 use Rattle.model.specs.declared.Relocation.{Relocation}
 use Rattle.model.specs.Graph.{Body}
 use Rattle.row.specs.Entry.{render, bytes, relocation, root}
-use Rattle.layout.specs.Layout.{with_bytes, with_relocations, with_section, with_sections, with_roots, bytes_length}
+use Rattle.layout.specs.Layout.{with_bytes, with_relocations, with_section, with_sections, with_roots, relocation_place}
 
 -- the row of the sixteen bytes from 16 * k on, or of those that are left
 abbrev pub byte_row : List ℕ → ℕ → List ℕ
@@ -41,4 +41,4 @@ roots_text ts = flat_map render (with_roots ts [])
 
 -- how long the rows of a section are
 abbrev pub record_length : Record → ℕ
-record_length r = 74 + (bytes_length r.size + 62 * r.relocations)
+record_length r = relocation_place r.size r.relocations

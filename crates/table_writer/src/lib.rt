@@ -8,28 +8,18 @@ ghost use Rattle.model.specs.Graph.{section_of, relocation_of, root_of, root_cou
 ghost use Rattle.row_writer.specs.Writing.{wrote, put};
 ghost use Rattle.layout.specs.Layout.{text_of, present_count};
 ghost use Rattle.graph.specs.Bytes.{bytes_in, relocations_in};
-ghost use Rattle.table_writer.specs.Texts.{bytes_text, relocations_text, section_text, sections_text, roots_text, record_length, byte_row, relocation_row, root_row};
+ghost use Rattle.table_writer.specs.Texts.{bytes_text, relocations_text, section_text, sections_text, roots_text, byte_row, relocation_row, root_row};
 ghost use Rattle.table_writer.specs.Writes.{Writes, pieces, EachWrites};
 
 use fault::{Fault, Kind, Layer};
 use graph::SectionGraph;
-use layout::bytes_length;
-use model::Record;
+use layout::{END_ROW, HEADER_ROW, ROOT_ROW, relocation_place};
 use row_writer::{
     write_bytes, write_end, write_header, write_relocation, write_root, write_section,
 };
 use std::array;
 
-// How long the rows of a section are.
-fn section_length(record: &Record) -> usize
-    ensures long { result ≡ record_length «record».now }
-    ensures few { result ≤ 5000000 }
-{
-    74 + (bytes_length(record.size) + 62 * usize::from(record.relocations))
-}
-
-// How long the rows of all sections are: but for 26 bytes of the first row, 14 for each root and 14 of the last row, that
-// is the table.
+// How long the rows of all sections are: but for the first row, those of the roots and the last, that is the table.
 fn sections_length<G: SectionGraph>(graph: &G) -> usize
     ensures table { result + (14 * root_count_of (G.SectionGraph.graph graph.now) + 40) ≡ length (text_of (G.SectionGraph.graph graph.now)) }
     ensures few { result ≤ 5120000000 }
@@ -37,7 +27,7 @@ fn sections_length<G: SectionGraph>(graph: &G) -> usize
     (0..graph.count())
         .map(|s| graph
             .record_of(s)
-            .map_or(0, |record| section_length(&record)))
+            .map_or(0, |x| relocation_place(x.size, x.relocations)))
         .sum()
 }
 
@@ -46,21 +36,16 @@ pub fn table_length<G: SectionGraph>(graph: &G) -> usize
     ensures { result ≡ length (text_of (G.SectionGraph.graph graph.now)) }
 {
     let roots = usize::from(graph.root_count());
-    sections_length(graph) + (14 * roots + 40)
+    HEADER_ROW + sections_length(graph) + ROOT_ROW * roots + END_ROW
 }
 
 // How many sections are present.
 fn present<G: SectionGraph>(graph: &G) -> u16
     ensures { result ≡ present_count (G.SectionGraph.graph graph.now).sections }
 {
-    // a `for`: of `filter(..).count()` over the range no proof was found of what it counts
-    let mut count = 0;
-    for s in 0..graph.count() {
-        if graph.record_of(s).is_some() {
-            count += 1;
-        }
-    }
-    count
+    (0..graph.count())
+        .map(|s| u16::from(graph.record_of(s).is_some()))
+        .sum()
 }
 
 // Writes the pieces of a text, each behind the last. A `for`: the writers take the part where the last row ended.

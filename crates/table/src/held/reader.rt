@@ -1,29 +1,28 @@
 // The calls of the reader, and its questions: it is a section graph.
 ghost use Rattle.std.specs.Prelude.{◌≡◌, None, drop, slice_index_or};
 ghost use Rattle.std.specs.Option.{option_map};
-ghost use Rattle.model.specs.Graph.{Graph, empty};
+ghost use Rattle.model.specs.Graph.{Graph, empty, count_of, root_count_of};
 ghost use Rattle.layout.specs.Reading.{fault_of};
 ghost use Rattle.layout.specs.Verdict.{Verdict};
 ghost use Rattle.table.specs.Held.{outcome, examined};
+ghost use Rattle.table.specs.Notes.{starts_in};
 ghost use Rattle.table.specs.Meaning.{text_held, graph_held, text_after};
 ghost use Rattle.table.specs.Answering.{valid_held};
 
 use super::Table;
-use crate::places::{SectionRows, root_in, told_counts};
-use crate::scan::{Starts, dangling, no_starts, scan, start};
-use fault::{Fault, Kind, Layer};
+use crate::places::{Counts, SectionRows, root_in, told_counts};
+use crate::scan::{Starts, check_targets, scan};
+use fault::Fault;
 use graph::SectionGraph;
 use model::{Record, Relocation};
 use std::alloc::Global;
 
 // The notes on a text that is accepted, or its refusal.
 fn examine(text: &[u8]) -> Result<Starts, Fault>
-    ensures { result ≡ examined text.now }
+    ensures { starts_in result ≡ examined text.now }
 {
     let starts = scan(text)?;
-    if let Some(at) = dangling(text, &starts) {
-        return Err(Fault::new(Kind::Dangling, at as u64, Layer::Format));
-    }
+    check_targets(text, &starts)?;
     Ok(starts)
 }
 
@@ -34,7 +33,7 @@ impl Table {
     {
         Table {
             text: Vec::new(heap),
-            starts: no_starts(),
+            starts: Starts::none(),
         }
     }
 
@@ -57,11 +56,20 @@ impl Table {
         self.text.as_slice()
     }
 
+    // How many sections and roots the table tells.
+    #[tactic(auto, using(crate::specs::Answering::count_held, crate::specs::Answering::roots_held))]
+    fn counts(&self) -> Counts
+        ensures sections { result.sections ≡ count_of (graph_held self.now) }
+        ensures roots { result.roots ≡ root_count_of (graph_held self.now) }
+    {
+        told_counts(self.text())
+    }
+
     // The rows of section `s`.
     fn rows(&self, s: u16) -> Option<SectionRows<'_>>
-        ensures { option_map (λ r. r.text.now) result ≡ option_map (λ p. drop p (text_held self.now)) (slice_index_or self.now.starts s None) }
+        ensures { option_map (λ r. r.text.now) result ≡ option_map (λ p. drop p (text_held self.now)) (slice_index_or self.now.starts.places s None) }
     {
-        let at = start(&self.starts, s)?;
+        let at = self.starts.of(s)?;
         Some(SectionRows::at(self.text.as_slice(), at))
     }
 }
@@ -69,30 +77,33 @@ impl Table {
 impl SectionGraph for Table {
     ghost graph = { graph_held };
 
-    ghost valid = { λ x. valid_held x.text.items x.starts x.fit };
+    ghost valid = { λ x. valid_held x.text.items x.starts.places x.fit };
 
     fn count(&self) -> u16 {
-        told_counts(self.text.as_slice()).sections
+        self.counts().sections
     }
 
+    #[tactic(auto, using(crate::specs::Answering::record_some))]
     fn record_of(&self, s: u16) -> Option<Record> {
         self.rows(s)?.record()
     }
 
+    #[tactic(auto, using(crate::specs::Answering::byte_some, crate::specs::Answering::byte_none))]
     fn byte(&self, s: u16, i: u16) -> Option<u8> {
         self.rows(s)?.byte(i)
     }
 
+    #[tactic(auto, using(crate::specs::Answering::relocation_some, crate::specs::Answering::relocation_none))]
     fn relocation(&self, s: u16, j: u16) -> Option<Relocation> {
         self.rows(s)?.relocation(j)
     }
 
     fn root_count(&self) -> u16 {
-        told_counts(self.text.as_slice()).roots
+        self.counts().roots
     }
 
+    #[tactic(auto, using(crate::specs::Answering::root_held))]
     fn root(&self, j: u16) -> Option<u16> {
-        let text = self.text.as_slice();
-        root_in(text, told_counts(text).roots, j)
+        root_in(self.text(), j)
     }
 }

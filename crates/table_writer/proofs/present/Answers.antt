@@ -1,23 +1,24 @@
-use Rattle.std.proofs.Common.{◌<◌, length, sym, arith}
-use Rattle.table_writer.proofs.Lengths.{count_more, count_same, count_all}
+use Rattle.std.proofs.Common.{◌^◌, ◌≤◌, length, ◌∙◌, arith, rules}
+use Rattle.std.specs.List.{range_with_len}
+use Rattle.std.proofs.lemmas.Iterator.{YieldsList-from_range, YieldsList-from_map}
+use Rattle.std.proofs.lemmas.Iterator.Consumers.{sum_by_from_yields_List}
+use Rattle.std.proofs.lemmas.Iterator.Adapters.{fits_from_length, at_most_from_yields_List}
+use Rattle.std.proofs.lemmas.List.FromFn.{length-range_with_len}
+use Rattle.table_writer.proofs.Lengths.{present_at, present_added}
 use Rattle.table_writer.proofs.present.Goals as goal
-use Rattle.table_writer.proofs.present.Goals.{then-is_some, else-is_some}
 
-pub loop-s-preserved : goal.loop-s-preserved
-loop-s-preserved g c =
-    let bs = (g.G.SectionGraph.graph c.args.graph.now).sections in
-    let low : c.loop-s.s < length bs = omega (arith, c.loop-s-test.true, c.count-s-end.ensures) in
-    elim c.if-is_some.branch [
-      | then-is_some w ↦
-          let e = count_more bs c.loop-s.s c.record_of.result low c.record_of.ensures (sym w.if-is_some.ensures) in
-          (omega (arith, w.count-is, e), omega (arith, w.count-is))
-      | else-is_some w ↦
-          let e = count_same bs c.loop-s.s c.record_of.result low c.record_of.ensures (sym w.if-is_some.ensures) in
-          (omega (arith, w.count-is, e), omega (arith, w.count-is))
-    ]
+-- at most 1,024 sections
+pub sum-requires-clause-fits : goal.sum-requires-clause-fits
+sum-requires-clause-fits g c =
+    let v = g.met.G.SectionGraph.valid c.args.graph.now in
+    let n = c.count.result in
+    fits_from_length _ _ 1024 (2 ^ 16) (at_most_from_yields_List (YieldsList-from_range 0 n n c.map.ensures.source (omega arith)) (omega (arith, length-range_with_len 0 n, c.count.ensures, v.few))) c.map.ensures.closure (omega arith)
+    (λ x r q k. search rules)
 
 pub returns : goal.returns
 returns g c =
-    let bs = (g.G.SectionGraph.graph c.args.graph.now).sections in
-    let all = count_all bs c.loop-s.s (omega (arith, c.loop-s-test.false, c.count-s-end.ensures)) in
-    omega (arith, c.loop-s.invariant.0, all)
+    let x = g.G.SectionGraph.graph c.args.graph.now in
+    let n = c.count.result in
+    sum_by_from_yields_List (present_at x.sections) (range_with_len 0 n) c.map.result c.sum.result c.sum.ensures.ran
+    (YieldsList-from_map _ (present_at x.sections) (YieldsList-from_range 0 n n c.map.ensures.source (omega arith)) c.map.ensures.closure (λ s r q k. search rules))
+    ∙ present_added x.sections n c.count.ensures

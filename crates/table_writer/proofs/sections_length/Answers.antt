@@ -24,7 +24,7 @@ returns g c =
     let all : c.sum.result ≡ sections_length x.sections =
     sum_by_from_yields_List (length_at x.sections) (range_with_len 0 n) c.map.result c.sum.result c.sum.ensures.ran
     (YieldsList-from_map _ (length_at x.sections) source c.map.ensures.closure (λ s r q k. search rules))
-    ∙ lengths_added x.sections n 0 (omega (arith, c.count.ensures)) in
+    ∙ lengths_added x.sections n c.count.ensures in
     let run = c.sum.ensures.runs tt in
     let few =
     fits_from_length _ _ 1024 5120000001 (at_most_from_yields_List source (omega (arith, length-range_with_len 0 n, c.count.ensures, v.few))) c.map.ensures.closure (omega arith) (λ s r q k. search rules)

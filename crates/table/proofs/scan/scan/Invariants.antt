@@ -1,4 +1,4 @@
-use Rattle.std.proofs.Common.{◌≡◌, ◌≤◌, length, drop}
+use Rattle.std.proofs.Common.{◌≡◌, drop}
 use Rattle.lines.specs.Lines.{lines}
 use Rattle.table.specs.Notes.{scan_from, scanned}
 use Rattle.table.proofs.scan.scan.Given as goal
@@ -9,5 +9,4 @@ invariant-loop-placed l =
     (goal.iterator-loop-placed).can_next l.placed-iterator
     × (goal.iterator-loop-placed).is_finite l.placed-iterator
     × (l.placed-iterator.text.now ≡ l.text)
-    × (l.placed-iterator.at ≤ length l.text)
-    × (scan_from l.placed-iterator.at (lines (drop l.placed-iterator.at l.text)) l.state l.starts ≡ scanned l.text)
+    × (scan_from l.placed-iterator.at (lines (drop l.placed-iterator.at l.text)) l.state l.starts.places ≡ scanned l.text)
