@@ -1,12 +1,10 @@
 -- One slot more made anew.
-use Rattle.std.proofs.Common.{◌≡◌, ℕ, suc, ◌+◌, ◌-◌, ◌<◌, ◌≤◌, Bool, true, false, cond, not, ◌&&◌, eqb, List, [], ◌∷◌, ◌++◌, Some, None, Option, is_some, is_none, unwrap_or, length, get_or, drop, set, sym, refl, ap, ◌∙◌, append_assoc, add-one, arith}
+use Rattle.std.proofs.Common.{◌≡◌, ℕ, suc, ◌+◌, ◌-◌, ◌<◌, Bool, true, false, cond, not, ◌&&◌, eqb, List, [], ◌∷◌, ◌++◌, Some, None, Option, is_some, is_none, unwrap_or, length, get_or, drop, set, sym, refl, ap, ◌∙◌, append_assoc, add-one, arith}
 use Rattle.std.proofs.lemmas.List.{drop_more, set_at}
 use Rattle.std.proofs.lemmas.Bool.{and_left, and_right, and_from, cond-true, cond-false}
 use Rattle.std.proofs.lemmas.List.FromFn.{map-range_with_len_more}
 use Rattle.calls.specs.declared.Slot.{Slot}
 use Rattle.calls.specs.declared.Slot.TheVariants.{Untouched, Folded, Swept}
-use Rattle.calls.specs.declared.Place.{Place}
-use Rattle.calls.specs.declared.Place.TheVariants.{Swept as Nowhere}
 use Rattle.steps.specs.Below.{count_below, table}
 use Rattle.steps.proofs.Below.{table_length}
 use Rattle.steps.proofs.Count.{count_yes, count_no}
@@ -14,22 +12,11 @@ use Rattle.runs.specs.State.{slot_of, slots_by, ended, followed}
 use Rattle.slots.specs.declared.Slots.{Slots}
 use Rattle.slots.specs.Turns.{stays, drops, dropped_slot, leads, joins, joined_slot, stays_by, goes_by, slot_by, sweep_rule, fold_rule, Turned}
 
--- following at most n slots, of which k were followed
-
-pub followed_start : (slots : List Slot) (n s : ℕ) → followed (n - 0) slots s ≡ followed n slots s
-followed_start slots n s =
-    let z : n - 0 ≡ n = omega arith in
-    ap (λ (m : ℕ). followed m slots s) z
-
-pub followed_end : (slots : List Slot) (n at k : ℕ) (x : Place) → n ≤ k → followed (n - k) slots at ≡ x → Nowhere ≡ x
-followed_end slots n at k x h e =
-    let z : n - k ≡ 0 = omega arith in
-    sym (ap (λ (m : ℕ). followed m slots at) z) ∙ e
-
-pub followed_here : (slots : List Slot) (n at k : ℕ) (y : Slot) (x : Place) → k < n → slot_of slots at ≡ y → followed (n - k) slots at ≡ x → ended y at (followed (n - (k + 1)) slots) ≡ x
-followed_here slots n at k y x h e f =
+-- a folded section is found where the other one is
+pub followed_folded : (slots : List Slot) (n at k t : ℕ) → k < n → slot_of slots at ≡ Folded t → followed (n - (k + 1)) slots t ≡ followed (n - k) slots at
+followed_folded slots n at k t h e =
     let z : n - k ≡ suc (n - (k + 1)) = omega arith in
-    sym (ap (λ (y : Slot). ended y at (followed (n - (k + 1)) slots)) e) ∙ (sym (ap (λ (m : ℕ). followed m slots at) z) ∙ f)
+    sym (ap (λ (m : ℕ). followed m slots at) z ∙ ap (λ (y : Slot). ended y at (followed (n - (k + 1)) slots)) e)
 
 -- slots made anew
 

@@ -3,8 +3,10 @@
 #![tactic(auto)]
 
 ghost use Rattle.std.specs.Prelude.{◌≡◌, ℕ, ◌<◌, ◌≤◌, Option, slice_set};
+ghost use Rattle.std.specs.Option.{option_map_or};
 ghost use Rattle.calls.specs.declared.Slot.{Slot};
-ghost use Rattle.runs.specs.State.{slot_of, found_at, followed};
+ghost use Rattle.calls.specs.declared.Place.TheVariants.{At, Swept as Nowhere};
+ghost use Rattle.runs.specs.State.{slot_of, found_at};
 ghost use Rattle.runs.specs.Seen.{found_number};
 ghost use Rattle.slots.specs.Turns.{fresh, untouched, stays, drops, dropped_slot, leads, joins, joined_slot, Turned, stays_by, goes_by, slot_by};
 
@@ -64,47 +66,41 @@ impl Slots {
     pub fn found(&self, s: u16) -> Place
         ensures { result ≡ found_at self.now.list s }
     {
-        self.follow(s, u32::from(s) + 1)
+        self.follow(s).map_or(Place::Swept, Place::At)
     }
 
-    // Where following at most `steps` slots from section `s` on ends.
-    fn follow(&self, s: u16, steps: u32) -> Place
-        ensures { result ≡ followed steps self.now.list s }
+    // The section at which following the slots from section `s` on ends: none where it was swept.
+    #[tactic(auto, using(crate::proofs::Turning::followed_folded))]
+    fn follow(&self, s: u16) -> Option<u16>
+        ensures { option_map_or At result Nowhere ≡ found_at self.now.list s }
     {
         // Each step may end it: a fold that is cut short says so less plainly than this loop.
         let mut at = s;
-        for _k in 0..steps {
+        for _ in 0..=s {
             match self.slot(at) {
-                Slot::Untouched => return Place::At(at),
+                Slot::Untouched => return Some(at),
                 Slot::Folded(t) => at = t,
-                Slot::Swept => return Place::Swept,
+                Slot::Swept => return None,
             }
         }
-        Place::Swept
+        None
     }
 
     // The number that relocations and roots to section `s` go to.
     pub fn number(&self, s: u16) -> u16
         ensures { result ≡ found_number self.now.list s }
     {
-        match self.found(s) {
-            Place::At(p) => p,
-            Place::Swept | Place::Absent => s,
-        }
+        self.follow(s).unwrap_or(s)
     }
+
+    // A sweep and a fold stay two functions, since they promise other things of other arguments; their loop is one, `turn`.
 
     // Sweeps the sections that are there and not reached: how many are left, and how many were swept.
     #[tactic(auto, using(crate::proofs::Turning::swept_by_rule))]
     pub fn sweep(&mut self, present: &Present, reached: &[bool; 1024]) -> (u16, u16)
         ensures { Turned (dropped_slot present.now.there reached.now) (stays present.now.there reached.now) (drops present.now.there reached.now) present.now.count self.old self.new result.0 result.1 }
     {
-        let swept = |s| {
-            if reached[usize::from(s)] {
-                None
-            } else {
-                Some(Slot::Swept)
-            }
-        };
+        let swept = |s: u16| (!reached[usize::from(s)]).then_some(Slot::Swept);
         self.turn(present, swept)
     }
 
@@ -113,13 +109,9 @@ impl Slots {
     pub fn fold(&mut self, present: &Present, class: &[u16; 1024]) -> (u16, u16)
         ensures { Turned (joined_slot present.now.there class.now) (leads present.now.there class.now) (joins present.now.there class.now) present.now.count self.old self.new result.0 result.1 }
     {
-        let folded = |s| {
+        let folded = |s: u16| {
             let lead = class[usize::from(s)];
-            if lead == s {
-                None
-            } else {
-                Some(Slot::Folded(lead))
-            }
+            (lead != s).then_some(Slot::Folded(lead))
         };
         self.turn(present, folded)
     }

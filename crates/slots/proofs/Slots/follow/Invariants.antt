@@ -1,6 +1,6 @@
-use Rattle.std.proofs.Common.{◌≡◌, ◌-◌}
-use Rattle.runs.specs.State.{followed}
+use Rattle.std.proofs.Common.{◌≡◌, suc, ◌-◌}
+use Rattle.runs.specs.State.{found_at, followed}
 use Rattle.slots.proofs.Slots.follow.Given as goal
 
-abbrev pub invariant-loop-k : goal.invariant-loop-k
-invariant-loop-k l = followed (l.steps - l._k) l.self.list l.at ≡ followed l.steps l.self.list l.s
+abbrev pub invariant-loop : goal.invariant-loop
+invariant-loop l = followed (suc l.s - l.counter) l.self.list l.at ≡ found_at l.self.list l.s
