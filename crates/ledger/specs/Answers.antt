@@ -68,8 +68,3 @@ abbrev pub root_refused : Ledger → Bool → ℕ → ℕ → Option Fault
 root_refused t there n s =
     check t.closed closed_fault
     (check (not there) (no_section s) (check (nat_le 64 (array_vec_len t.roots) || nat_le 4096 (n + array_vec_len t.roots)) full None))
-
--- the result that a refusal is
-abbrev pub unless_refused : Option Fault → Result (Unit {0}) Fault
-unless_refused None = Ok tt
-unless_refused (Some f) = Err f

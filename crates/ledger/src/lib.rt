@@ -3,8 +3,9 @@
 
 #![tactic(auto)]
 
-ghost use Rattle.std.specs.Prelude.{◌≡◌, ◌<◌};
+ghost use Rattle.std.specs.Prelude.{◌≡◌, ◌<◌, None, cond};
 ghost use Rattle.arrayvec.specs.ArrayVec.{array_vec_len};
+ghost use Rattle.fault.specs.Refusal.{ok_unless};
 ghost use Rattle.unfolding.specs.Groups.{aimed_at};
 ghost use Rattle.unfolding.specs.Reach.{has};
 ghost use Rattle.runs.specs.Laws.{pinned_record};
@@ -12,7 +13,7 @@ ghost use Rattle.runs.specs.State.{fault_at};
 ghost use Rattle.slots.specs.Turns.{stays, drops, dropped_slot, leads, joins, joined_slot};
 ghost use Rattle.ledger.specs.Edits.{fresh, with_bind, with_pin, with_root, Shut};
 ghost use Rattle.ledger.specs.Told.{bound_by, bound_names, pinned};
-ghost use Rattle.ledger.specs.Answers.{stands, seen_record, seen_byte, seen_target, seen_relocation, added_root, seen_root, placed, section_bound, bind_refused, pin_refused, root_refused, unless_refused};
+ghost use Rattle.ledger.specs.Answers.{stands, seen_record, seen_byte, seen_target, seen_relocation, added_root, seen_root, placed, section_bound, bind_refused, pin_refused, root_refused};
 
 use arrayvec::ArrayVec;
 use calls::Place;
@@ -171,39 +172,37 @@ impl Ledger {
         }
     }
 
+    // What the graph below tells of section `s`, where the section is untouched.
+    fn left<T: Drop>(&self, s: u16, told: Option<T>) -> Option<T>
+        ensures { result ≡ cond (stands self.now s) told None }
+    {
+        told.filter(|_| self.slots.is_untouched(s))
+    }
+
     // The record of section `s`, from that of the graph below.
     pub fn record(&self, s: u16, told: Option<Record>) -> Option<Record>
         ensures { result ≡ seen_record self.now s told }
     {
-        if !self.slots.is_untouched(s) {
-            return None;
-        }
-        if self.is_pinned(s) {
-            told.map(as_pinned)
+        let record = self.left(s, told)?;
+        Some(if self.is_pinned(s) {
+            as_pinned(record)
         } else {
-            told
-        }
+            record
+        })
     }
 
     // A byte of section `s`.
     pub fn byte(&self, s: u16, told: Option<u8>) -> Option<u8>
         ensures { result ≡ seen_byte self.now s told }
     {
-        if self.slots.is_untouched(s) {
-            told
-        } else {
-            None
-        }
+        self.left(s, told)
     }
 
     // A relocation of section `s`.
     pub fn relocation(&self, s: u16, told: Option<Relocation>) -> Option<Relocation>
         ensures { result ≡ seen_relocation self.now s told }
     {
-        if !self.slots.is_untouched(s) {
-            return None;
-        }
-        told.map(|x| self.aim(x))
+        self.left(s, told).map(|x| self.aim(x))
     }
 
     // Added root `j`.
@@ -241,7 +240,7 @@ impl Ledger {
 
     // Whether a bind is refused, and why; `there` says whether the section is present.
     pub fn check_bind(&self, there: bool, name: u16, section: u16) -> Result<(), Fault>
-        ensures { result ≡ unless_refused (bind_refused self.now there name section) }
+        ensures { result ≡ ok_unless (bind_refused self.now there name section) tt }
     {
         self.check_pin(there, section)?;
         if self.is_bound(name) {
@@ -255,7 +254,7 @@ impl Ledger {
 
     // Whether a pin is refused, and why.
     pub fn check_pin(&self, there: bool, section: u16) -> Result<(), Fault>
-        ensures { result ≡ unless_refused (pin_refused self.now there section) }
+        ensures { result ≡ ok_unless (pin_refused self.now there section) tt }
     {
         if self.closed {
             return Err(refused(Kind::Closed, 0));
@@ -268,7 +267,7 @@ impl Ledger {
 
     // Whether a root is refused, and why; the graph below has `n` roots.
     pub fn check_root(&self, there: bool, n: u16, section: u16) -> Result<(), Fault>
-        ensures { result ≡ unless_refused (root_refused self.now there n section) }
+        ensures { result ≡ ok_unless (root_refused self.now there n section) tt }
     {
         self.check_pin(there, section)?;
         if self.roots.is_full() || usize::from(n) + self.roots.len() >= 4096 {

@@ -1,10 +1,11 @@
 -- What each call does to a sound pile.
-use Rattle.std.specs.Prelude.{◌≡◌, ℕ, ◌+◌, ◌<◌, ◌≤◌, Bool, List, [], ◌∷◌, ◌++◌, length, take, is_some, Some, None, Ok, Err, Option, Result, slice_index_or, refl}
-use Rattle.std.proofs.Common.{arith, sym, ap, subst, ◌∙◌, append_assoc}
+use Rattle.std.specs.Prelude.{◌≡◌, ℕ, ◌+◌, ◌<◌, ◌≤◌, Bool, List, length, take, is_some, Some, None, Ok, Err, Option, Result, slice_index_or, refl}
+use Rattle.std.proofs.Common.{sym, ap, subst, ◌∙◌}
 use Rattle.std.proofs.Math.Logic.{∥∥₁_elim, ∥∥₁_prop}
-use Rattle.std.proofs.lemmas.List.{append-nil, take_all, take_more}
+use Rattle.std.proofs.lemmas.List.{take_all, take_more}
 use Rattle.arrayvec.specs.ArrayVec.{array_vec_len}
 use Rattle.fault.specs.declared.Fault.{Fault}
+use Rattle.fault.specs.Refusal.{ok_unless}
 use Rattle.model.specs.Graph.{Body, Graph, count_of, told_record, root_count_of}
 use Rattle.model.specs.Laws.{Valid}
 use Rattle.steps.specs.Below.{table}
@@ -15,14 +16,13 @@ use Rattle.calls.specs.declared.Call.{Call}
 use Rattle.calls.specs.declared.Call.TheVariants.{Bind, Pin, Root, Sweep, Fold}
 use Rattle.calls.specs.declared.Answer.{Answer}
 use Rattle.calls.specs.declared.Answer.TheVariants.{Accepted, Refused, Dropped, Merged}
-use Rattle.runs.specs.State.{refusal, moved, unless, step, refused_or, answered, answer, after}
+use Rattle.runs.specs.State.{start, refusal, moved, unless, step, refused_or, answered, answer, after}
 use Rattle.slots.specs.Turns.{stays, drops, dropped_slot, leads, joins, joined_slot}
 use Rattle.ledger.specs.declared.Ledger.{Ledger}
 use Rattle.ledger.specs.Edits.{fresh, Bounds, with_bind, with_pin, with_root, Shut}
 use Rattle.ledger.specs.Told.{told, Reachable, Kept}
 use Rattle.ledger.proofs.OneProof.{State-set, Valid-prop}
-use Rattle.ledger.proofs.Telling.{fresh_reachable, after_step, told_tells, told_kept, step_reachable, step_kept, bind_refusal, pin_refusal, root_refusal, bind_room, pin_there, root_room, small, told_bind, told_pin, told_root, bind_bounds, pin_bounds, root_bounds, shut_bounds, there, marks, class, few, told_sweep, sweep_answer, told_fold, fold_answer}
-use Rattle.ledger.specs.Answers.{unless_refused}
+use Rattle.ledger.proofs.Telling.{told_fresh, fresh_reachable, after_step, told_tells, told_kept, step_reachable, step_kept, bind_refusal, pin_refusal, root_refusal, bind_room, pin_there, root_room, small, told_bind, told_pin, told_root, bind_bounds, pin_bounds, root_bounds, shut_bounds, there, marks, class, few, told_sweep, sweep_answer, told_fold, fold_answer}
 use Rattle.pile.specs.Does.{Sound, Does, Checked}
 
 -- a section is present where a record is told
@@ -36,6 +36,10 @@ pub pile_valid : (g : Graph) → Valid g → (t : Ledger) → Sound g t → Vali
 pile_valid g v t sound = ∥∥₁_elim sound (Valid-prop (told g t).graph) (λ r. (told_tells g v t r).valid)
 
 -- nothing was called on a new pile
+
+pub fresh_told : (g : Graph) (t : Ledger) → t ≡ fresh → told g t ≡ start g
+fresh_told g t e = ap (told g) e ∙ told_fresh g
+
 pub fresh_sound : (g : Graph) (t : Ledger) → t ≡ fresh → Sound g t
 fresh_sound g t e = subst (Sound g) (sym e) ∣ fresh_reachable g ∣₁
 
@@ -69,14 +73,11 @@ module _ (g : Graph) (v : Valid g) (t : Ledger) (sound : Sound g t) where
         promise = step_kept g v t c t same;
       }
 
-  pub checked : (c : Call) (x : Result (Unit {0}) Fault) → x ≡ unless_refused (refusal (told g t) c) → Checked g t c x
-  checked c x e = go (refusal (told g t) c) refl x e
-    where
-      go : (o : Option Fault) → refusal (told g t) c ≡ o → (x : Result (Unit {0}) Fault) → x ≡ unless_refused o → Checked g t c x
-      go None h (Ok u) e = h
-      go None h (Err f) e = absurd cc
-      go (Some f) h (Ok u) e = absurd cc
-      go (Some f) h (Err f') e = let same : f' ≡ f = cc in refused_done c f' (h ∙ ap (λ (y : Fault). Some y) (sym same))
+  pub checked : (c : Call) (o : Option Fault) (x : Result (Unit {0}) Fault) → o ≡ refusal (told g t) c → x ≡ ok_unless o tt → Checked g t c x
+  checked c None (Ok u) h e = sym h
+  checked c None (Err f) h e = absurd cc
+  checked c (Some f) (Ok u) h e = absurd cc
+  checked c (Some f) (Err f') h e = let same : f' ≡ f = cc in refused_done c f' (sym h ∙ ap (λ (y : Fault). Some y) (sym same))
 
   accepts : (c : Call) → answered (told g t) c ≡ Accepted → refusal (told g t) c ≡ None → Accepted ≡ answer (told g t) c
   accepts c a e = sym (ap (λ (o : Option Fault). refused_or o (answered (told g t) c)) e ∙ a)
@@ -185,27 +186,17 @@ module _ (g : Graph) (v : Valid g) (t : Ledger) (sound : Sound g t) where
       (λ r. told_fold g v t t' a b r three)
       (fold_answer g v t t' a b k ek three)
 
--- a list of calls, one more
+-- a list of calls on a new pile, one more
 
 pub run_more :
-    (g : Graph) (t₀ t t' : Ledger) (calls : List Call) (i : ℕ) (a : Answer) →
+    (g : Graph) (t t' : Ledger) (calls : List Call) (i : ℕ) (a : Answer) →
     i < length calls →
-    ((cs : List Call) → told g t₀ ≡ after g cs → told g t ≡ after g (cs ++ take i calls)) →
+    told g t ≡ after g (take i calls) →
     Does g t t' (slice_index_or calls i (Bind 0 0)) a →
-    (cs : List Call) → told g t₀ ≡ after g cs → told g t' ≡ after g (cs ++ take (i + 1) calls)
-run_more g t₀ t t' calls i a lt led d cs e =
-    let c = slice_index_or calls i (Bind 0 0) in
+    told g t' ≡ after g (take (i + 1) calls)
+run_more g t t' calls i a lt led d =
     d.state ∙
-    (sym (after_step g t (cs ++ take i calls) (led cs e) c) ∙
-    ap (after g) (append_assoc cs (take i calls) (c ∷ []) ∙ ap (λ (xs : List Call). cs ++ xs) (sym (take_more calls i (Bind 0 0) lt))))
+    (sym (after_step g t (take i calls) led (slice_index_or calls i (Bind 0 0))) ∙ ap (after g) (sym (take_more calls i (Bind 0 0) lt)))
 
-pub run_none : (g : Graph) (t : Ledger) (calls cs : List Call) → told g t ≡ after g cs → told g t ≡ after g (cs ++ take 0 calls)
-run_none g t calls cs e = e ∙ ap (after g) (sym (append-nil cs))
-
-pub run_all :
-    (g : Graph) → Valid g → (t₀ t : Ledger) (calls : List Call) (i : ℕ) →
-    length calls ≤ i →
-    ((cs : List Call) → told g t₀ ≡ after g cs → told g t ≡ after g (cs ++ take i calls)) →
-    (cs : List Call) → told g t₀ ≡ after g cs → Kept g (cs ++ calls) (told g t)
-run_all g v t₀ t calls i h led cs e =
-    told_kept g v t (cs ++ calls) (led cs e ∙ ap (λ (xs : List Call). after g (cs ++ xs)) (take_all i calls h))
+pub run_all : (g : Graph) → Valid g → (t : Ledger) (calls : List Call) (i : ℕ) → length calls ≤ i → told g t ≡ after g (take i calls) → Kept g calls (told g t)
+run_all g v t calls i h led = told_kept g v t calls (led ∙ ap (after g) (take_all i calls h))

@@ -6,7 +6,7 @@
 
 #![tactic(auto)]
 
-ghost use Rattle.std.specs.Prelude.{◌≡◌, List, [], ◌∷◌, ◌++◌, None};
+ghost use Rattle.std.specs.Prelude.{◌≡◌, None};
 ghost use Rattle.model.specs.Graph.{count_of, record_of, byte_of, relocation_of, root_count_of, root_of};
 ghost use Rattle.steps.specs.Below.{table as listed};
 ghost use Rattle.unfolding.specs.Groups.{present};
@@ -15,7 +15,7 @@ ghost use Rattle.unfolding.specs.Sections.{rep, rounds};
 ghost use Rattle.calls.specs.declared.Call.TheVariants.{Bind, Pin, Root, Sweep, Fold};
 ghost use Rattle.calls.specs.declared.Answer.TheVariants.{Accepted, Dropped, Merged};
 ghost use Rattle.calls.specs.Outcome.{outcome};
-ghost use Rattle.runs.specs.State.{start, refusal, after, place_of};
+ghost use Rattle.runs.specs.State.{start, refusal, place_of};
 ghost use Rattle.ledger.specs.Told.{told, Kept};
 ghost use Rattle.pile.specs.Does.{Sound, Does, Checked};
 ghost use Rattle.pile.specs.Piling.{pile_valid};
@@ -31,7 +31,7 @@ use slots::Present;
 use std::array;
 
 // A pile: the graph below, and what was called. That a call leaves the graph below as it was is a clause of its own, `over`, and no field
-// of `Does`: that field would need both graphs and their type, three arguments more in each contract, and `Checked` has one graph alone.
+// of `Does`: that field would need both graphs and their type, two arguments and a type more, and `Checked` has one graph alone.
 #[derive(Drop)]
 pub struct Pile<G: SectionGraph> {
     below: G,
@@ -102,6 +102,7 @@ impl<G: SectionGraph> SectionGraph for Pile<G> {
 
 impl<G: SectionGraph> Pile<G> {
     // A new pile over a section graph: nothing is bound, pinned or rooted.
+    #[tactic(auto, using(crate::specs::Piling::fresh_told, crate::specs::Piling::fresh_sound))]
     pub fn new(below: G) -> Pile<G>
         ensures over { result.below ≡ below }
         ensures state { told (G.SectionGraph.graph below) result.table ≡ start (G.SectionGraph.graph below) }
@@ -281,10 +282,11 @@ impl<G: SectionGraph> Pile<G> {
         }
     }
 
-    // A list of calls done in order, whatever calls led to the pile before.
+    // A list of calls on a new pile, done in order. A call that is refused alters nothing, and the list goes on.
     fn apply_all(&mut self, calls: &[Call])
+        requires { told (G.SectionGraph.graph self.old.below) self.old.table ≡ start (G.SectionGraph.graph self.old.below) }
         ensures over { self.new.below ≡ self.old.below }
-        ensures kept { (before : List _) → told (G.SectionGraph.graph self.old.below) self.old.table ≡ after (G.SectionGraph.graph self.old.below) before → Kept (G.SectionGraph.graph self.old.below) (before ++ calls.now) (told (G.SectionGraph.graph self.old.below) self.new.table) }
+        ensures kept { Kept (G.SectionGraph.graph self.old.below) calls.now (told (G.SectionGraph.graph self.old.below) self.new.table) }
     {
         for call in calls {
             let _ = self.apply(*call);

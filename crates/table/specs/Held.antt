@@ -1,6 +1,7 @@
 -- What a reader of tables holds: the text that it accepted last, at first none, and its notes on it.
 use Rattle.std.specs.Prelude.{ℕ, Bool, true, false, not, ◌&&◌, List, [], ◌∷◌, is_some, Some, None, Ok, Err, Option, Result, ◌==◌}
 use Rattle.fault.specs.declared.Fault.{Fault}
+use Rattle.fault.specs.Refusal.{ok_unless}
 use Rattle.layout.specs.Reading.{fault_of}
 use Rattle.table.specs.Notes.{starts_of}
 
@@ -25,19 +26,11 @@ same_starts (x ∷ xs) (y ∷ ys) = same_start x y && same_starts xs ys
 unfoldable pub held : List ℕ → List (Option ℕ) → Bool
 held t xs = accepted t && same_starts xs (starts_of t)
 
--- what reading a text answers
-abbrev pub outcome : Option Fault → Result (Unit {0}) Fault
-outcome None = Ok tt
-outcome (Some f) = Err f
-
-abbrev pub notes_or : Option Fault → List (Option ℕ) → Result (List (Option ℕ)) Fault
-notes_or None xs = Ok xs
-notes_or (Some f) xs = Err f
-
+-- the notes, unless the rows are refused
 abbrev pub noted_after : Result (Unit {0}) Fault → List (Option ℕ) → Result (List (Option ℕ)) Fault
 noted_after (Ok u) xs = Ok xs
 noted_after (Err f) xs = Err f
 
 -- the notes on a text that is accepted, or its refusal
 abbrev pub examined : List ℕ → Result (List (Option ℕ)) Fault
-examined t = notes_or (fault_of t) (starts_of t)
+examined t = ok_unless (fault_of t) (starts_of t)

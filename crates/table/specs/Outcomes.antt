@@ -4,6 +4,7 @@ use Rattle.std.proofs.Common.{sym, ap, subst, ◌∙◌, inl, inr, arith, zero-a
 use Rattle.std.specs.Option.{option_map, option_or}
 use Rattle.std.proofs.lemmas.Bool.{eqb-true, eq-eqb, and_parts, and_from}
 use Rattle.fault.specs.declared.Fault.{Fault}
+use Rattle.fault.specs.Refusal.{ok_unless}
 use Rattle.lines.specs.Lines.{lines, row_start, place_from, placed_after}
 use Rattle.lines.proofs.Verdicts.{place_is}
 use Rattle.row.specs.Reading.{read_row}
@@ -12,7 +13,7 @@ use Rattle.layout.specs.declared.State.TheVariants.{Start}
 use Rattle.layout.specs.Order.{is_done}
 use Rattle.layout.specs.Reading.{step_line, bad_row, graph_of, dangling_from, bad_row_at, dangling_at, fault_of}
 use Rattle.table.specs.Notes.{note, noted, no_notes, starts_of, scan_from, scan_after, scanned, targets_from}
-use Rattle.table.specs.Held.{accepted, same_start, same_starts, held, outcome, notes_or, noted_after, examined}
+use Rattle.table.specs.Held.{accepted, same_start, same_starts, held, noted_after, examined}
 use Rattle.table.specs.Questions.{targets_right}
 
 -- the walk notes all, or refuses at the place of the verdict
@@ -54,20 +55,20 @@ scanned_err t f h = go (bad_row t) refl (sym (scanned_is t) ∙ h)
     go None b e = absurd (let z : ◌≡◌ {A = ℕ} 0 1 = cc in omega arith)
     go (Some k) b e =
         let same : bad_row_at (0 + row_start (lines t) k) ≡ f = cc in
-        ap (λ (o : Option ℕ). notes_or (option_or (option_map (λ k. bad_row_at (row_start (lines t) k)) o) (option_map dangling_at (dangling_from (graph_of t) 0 (lines t)))) (starts_of t)) b
+        ap (λ (o : Option ℕ). ok_unless (option_or (option_map (λ k. bad_row_at (row_start (lines t) k)) o) (option_map dangling_at (dangling_from (graph_of t) 0 (lines t)))) (starts_of t)) b
         ∙ ap Err (ap bad_row_at (sym (zero-add (row_start (lines t) k))) ∙ same)
 
 -- past the first walk, the second decides
 
-outcome_noted : (o : Option Fault) (xs : List (Option ℕ)) → notes_or o xs ≡ noted_after (outcome o) xs
-outcome_noted None xs = refl
-outcome_noted (Some f) xs = refl
+ok_unless_noted : (o : Option Fault) (xs : List (Option ℕ)) → ok_unless o xs ≡ noted_after (ok_unless o tt) xs
+ok_unless_noted None xs = refl
+ok_unless_noted (Some f) xs = refl
 
 examined_formed : (t : List ℕ) (r : Result (Unit {0}) Fault) → bad_row t ≡ None → r ≡ targets_from (starts_of t) 0 (lines t)
     → examined t ≡ noted_after r (starts_of t)
 examined_formed t r b e =
-    ap (λ (v : Option ℕ). notes_or (option_or (option_map (λ k. bad_row_at (row_start (lines t) k)) v) (option_map dangling_at (dangling_from (graph_of t) 0 (lines t)))) (starts_of t)) b
-    ∙ outcome_noted (option_map dangling_at (dangling_from (graph_of t) 0 (lines t))) (starts_of t)
+    ap (λ (v : Option ℕ). ok_unless (option_or (option_map (λ k. bad_row_at (row_start (lines t) k)) v) (option_map dangling_at (dangling_from (graph_of t) 0 (lines t)))) (starts_of t)) b
+    ∙ ok_unless_noted (option_map dangling_at (dangling_from (graph_of t) 0 (lines t))) (starts_of t)
     ∙ ap (λ (v : Result (Unit {0}) Fault). noted_after v (starts_of t)) (sym (e ∙ targets_right t b))
 
 -- what is held
@@ -122,14 +123,14 @@ held_cases (b ∷ t) h = inr (accepted_none (fault_of (b ∷ t)) h)
 pub examined_ok : (t : List ℕ) (xs : List (Option ℕ)) → examined t ≡ Ok xs → (fault_of t ≡ None) × (xs ≡ starts_of t)
 examined_ok t xs h = go (fault_of t) h
   where
-    go : (o : Option Fault) → notes_or o (starts_of t) ≡ Ok xs → (o ≡ None) × (xs ≡ starts_of t)
+    go : (o : Option Fault) → ok_unless o (starts_of t) ≡ Ok xs → (o ≡ None) × (xs ≡ starts_of t)
     go None e = (refl, cc)
     go (Some f) e = absurd (let z : ◌≡◌ {A = ℕ} 0 1 = cc in omega arith)
 
 pub examined_err : (t : List ℕ) (f : Fault) → examined t ≡ Err f → fault_of t ≡ Some f
 examined_err t f h = go (fault_of t) h
   where
-    go : (o : Option Fault) → notes_or o (starts_of t) ≡ Err f → o ≡ Some f
+    go : (o : Option Fault) → ok_unless o (starts_of t) ≡ Err f → o ≡ Some f
     go None e = absurd (let z : ◌≡◌ {A = ℕ} 0 1 = cc in omega arith)
     go (Some e) k = let same : e ≡ f = cc in ap (λ (x : Fault). Some x) same
 

@@ -4,6 +4,7 @@ use Rattle.std.proofs.Common.{sym, ap, subst, ◌∙◌, inl, inr, arith, zero-a
 use Rattle.std.specs.List.{slice_get, AllByRecursion}
 use Rattle.std.specs.Option.{option_map}
 use Rattle.fault.specs.declared.Fault.{Fault}
+use Rattle.fault.specs.Refusal.{ok_unless}
 use Rattle.std.proofs.lemmas.List.{append_assoc, get_or-replicate, get_or_past}
 use Rattle.std.proofs.ByRecursion.{All-get_or, All-weaker}
 use Rattle.std.proofs.lemmas.Option.{slice_get-get_or, slice_get_past}
@@ -28,7 +29,6 @@ use Rattle.layout.proofs.Texts.{row_itself, lines_text, formed_text}
 use Rattle.layout.proofs.Ranges.{ranged_entries, count_below}
 use Rattle.layout.proofs.Aims.{present_below}
 use Rattle.table.specs.Notes.{note, noted, no_notes, starts_of, unnoted, target_on, targets_from}
-use Rattle.table.specs.Held.{outcome}
 use Rattle.table.specs.Places.{sections_told, roots_told, record_told, relocation_told, root_told, rows_from, byte_place, byte_told, size_told, byte_in, relocation_in, root_in}
 use Rattle.table.specs.Spots.{Stands, stands_next, notes, Spot, sections_noted, past_sections}
 use Rattle.table.specs.Distances.{stands_read, stands_after, past_bytes, byte_spot, relocation_spot, root_spot, roots_place}
@@ -241,7 +241,7 @@ module _ (t : List ℕ) (formed : bad_row t ≡ None) where
   unnoted_tells None = refl
   unnoted_tells (Some s) = start_tells (section_of (graph_of t) s) s (slice_index_or (starts_of t) s None) (spot_at s)
 
-  targets_rows : (at : ℕ) (es : List Entry) → AllByRecursion Ranged es → targets_from (starts_of t) at (map render es) ≡ outcome (option_map dangling_at (dangling_from (graph_of t) at (map render es)))
+  targets_rows : (at : ℕ) (es : List Entry) → AllByRecursion Ranged es → targets_from (starts_of t) at (map render es) ≡ ok_unless (option_map dangling_at (dangling_from (graph_of t) at (map render es))) tt
   targets_rows at [] r = refl
   targets_rows at (e ∷ es) r =
       let more : Result (Unit {0}) Fault = targets_from (starts_of t) (at + length (render e)) (map render es) in
@@ -249,15 +249,15 @@ module _ (t : List ℕ) (formed : bad_row t ≡ None) where
       ap (target_on (starts_of t) at more) (row_itself e r.0)
       ∙ ap (λ (b : Bool). cond b (Err (dangling_at at)) more) (unnoted_tells (named e))
       ∙ go (absent_in (graph_of t) (named e)) more rest (targets_rows (at + length (render e)) es r.1)
-      ∙ ap (λ (x : Result Entry Cause). outcome (option_map dangling_at (cond (dangles (graph_of t) x) (Some at) rest))) (sym (row_itself e r.0))
+      ∙ ap (λ (x : Result Entry Cause). ok_unless (option_map dangling_at (cond (dangles (graph_of t) x) (Some at) rest)) tt) (sym (row_itself e r.0))
     where
-      go : (b : Bool) (more : Result (Unit {0}) Fault) (rest : Option ℕ) → more ≡ outcome (option_map dangling_at rest)
-          → cond b (Err (dangling_at at)) more ≡ outcome (option_map dangling_at (cond b (Some at) rest))
+      go : (b : Bool) (more : Result (Unit {0}) Fault) (rest : Option ℕ) → more ≡ ok_unless (option_map dangling_at rest) tt
+          → cond b (Err (dangling_at at)) more ≡ ok_unless (option_map dangling_at (cond b (Some at) rest)) tt
       go true more rest h = refl
       go false more rest h = h
 
-  pub targets_right : targets_from (starts_of t) 0 (lines t) ≡ outcome (option_map dangling_at (dangling_from (graph_of t) 0 (lines t)))
+  pub targets_right : targets_from (starts_of t) 0 (lines t) ≡ ok_unless (option_map dangling_at (dangling_from (graph_of t) 0 (lines t))) tt
   targets_right =
       ap (targets_from (starts_of t) 0) rows
       ∙ targets_rows 0 (entries (graph_of t)) (ranged_entries (graph_of t) laws)
-      ∙ ap (λ (ls : List (List ℕ)). outcome (option_map dangling_at (dangling_from (graph_of t) 0 ls))) (sym rows)
+      ∙ ap (λ (ls : List (List ℕ)). ok_unless (option_map dangling_at (dangling_from (graph_of t) 0 ls)) tt) (sym rows)

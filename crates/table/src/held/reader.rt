@@ -1,10 +1,11 @@
 // The calls of the reader, and its questions: it is a section graph.
 ghost use Rattle.std.specs.Prelude.{◌≡◌, None, drop, slice_index_or};
 ghost use Rattle.std.specs.Option.{option_map};
+ghost use Rattle.fault.specs.Refusal.{ok_unless};
 ghost use Rattle.model.specs.Graph.{Graph, empty, count_of, root_count_of};
 ghost use Rattle.layout.specs.Reading.{fault_of};
 ghost use Rattle.layout.specs.Verdict.{Verdict};
-ghost use Rattle.table.specs.Held.{outcome, examined};
+ghost use Rattle.table.specs.Held.{examined};
 ghost use Rattle.table.specs.Notes.{starts_in};
 ghost use Rattle.table.specs.Meaning.{text_held, graph_held, text_after};
 ghost use Rattle.table.specs.Answering.{valid_held};
@@ -39,7 +40,7 @@ impl Table {
 
     // Reads a table. The text is moved in and kept as it is; a text that is refused leaves the reader as it was.
     pub fn read(&mut self, text: Vec<u8>) -> Result<(), Fault>
-        ensures answer { result ≡ outcome (fault_of text.items) }
+        ensures answer { result ≡ ok_unless (fault_of text.items) tt }
         ensures holds { text_held self.new ≡ text_after (fault_of text.items) text.items (text_held self.old) }
         ensures verdict { Verdict text.items }
     {

@@ -1,25 +1,15 @@
-use Rattle.std.proofs.Common.{get_or, refl, ◌∙◌, subst}
+use Rattle.std.proofs.Common.{get_or, ◌∙◌, subst}
 use Rattle.calls.specs.declared.Call.TheVariants.{Bind}
 use Rattle.pile.specs.Does.{Does}
-use Rattle.pile.specs.Piling.{run_none, run_more, run_all}
+use Rattle.pile.specs.Piling.{run_more, run_all}
 use Rattle.pile.proofs.Pile.apply_all.Goals as goal
-
-pub loop-call-init : goal.loop-call-init
-loop-call-init g c =
-    (refl, run_none (g.G.SectionGraph.graph c.args.self.now.below) c.args.self.now.table c.args.calls.now)
 
 pub loop-call-preserved : goal.loop-call-preserved
 loop-call-preserved g c =
+    let x = g.G.SectionGraph.graph c.args.self.now.below in
     let over = c.loop-call.invariant.0 in (
       c.apply.ensures.over ∙ over,
-      run_more
-          (g.G.SectionGraph.graph c.args.self.now.below)
-          c.args.self.now.table
-          c.loop-call.self.table
-          c.apply.new.self.table
-          c.args.calls.now
-          c.loop-call.call-index
-          c.apply.result
+      run_more x c.loop-call.self.table c.apply.new.self.table c.args.calls.now c.loop-call.call-index c.apply.result
           c.loop-call-test.true
           c.loop-call.invariant.1
           (subst
@@ -30,16 +20,12 @@ loop-call-preserved g c =
 
 pub returns : goal.returns
 returns g c =
+    let x = g.G.SectionGraph.graph c.args.self.now.below in
+    let v = g.met.G.SectionGraph.valid c.args.self.now.below in
     record {
       over = c.loop-call.invariant.0;
       kept =
-          run_all
-          (g.G.SectionGraph.graph c.args.self.now.below)
-          (g.met.G.SectionGraph.valid c.args.self.now.below)
-          c.args.self.now.table
-          c.loop-call.self.table
-          c.args.calls.now
-          c.loop-call.call-index
+          run_all x v c.loop-call.self.table c.args.calls.now c.loop-call.call-index
           c.loop-call-test.false
           c.loop-call.invariant.1;
     }

@@ -1,5 +1,4 @@
-use Rattle.std.proofs.Common.{◌≡◌, List, ◌++◌, take}
-use Rattle.calls.specs.declared.Call.{Call}
+use Rattle.std.proofs.Common.{◌≡◌, take}
 use Rattle.runs.specs.State.{after}
 use Rattle.ledger.specs.Told.{told}
 use Rattle.pile.proofs.Pile.apply_all.Given as goal
@@ -7,7 +6,5 @@ use Rattle.pile.proofs.Pile.apply_all.Given as goal
 abbrev pub invariant-loop-call : goal.invariant-loop-call
 invariant-loop-call g l =
     (l.self.below ≡ l.initial.self.below) ×
-    ((before : List Call) →
-    told (g.G.SectionGraph.graph l.initial.self.below) l.initial.self.table ≡ after (g.G.SectionGraph.graph l.initial.self.below) before →
-    told (g.G.SectionGraph.graph l.initial.self.below) l.self.table ≡
-    after (g.G.SectionGraph.graph l.initial.self.below) (before ++ take l.call-index l.calls))
+    (told (g.G.SectionGraph.graph l.initial.self.below) l.self.table ≡
+    after (g.G.SectionGraph.graph l.initial.self.below) (take l.call-index l.calls))
