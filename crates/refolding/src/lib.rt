@@ -54,20 +54,22 @@ fn row_length(fault: &Fault) -> usize
 // definition for it, which is longer than the line that each would save.
 
 // The row of a refusal.
+#[tactic(auto, using(row_writer::proofs::Puts::wrote_fits))]
 fn fault_text(heap: Global, fault: &Fault) -> Result<Vec<u8>, AllocError>
     ensures { IfOk result (λ v. v.items ≡ fault_row fault.now) }
 {
     let mut text = vec![in heap; 0u8; row_length(fault)]?;
-    let _ = write_fault(fault, text.as_mut_slice());
+    write_fault(fault, text.as_mut_slice()).unwrap();
     Ok(text)
 }
 
 // The table of a section graph.
+#[tactic(auto, using(row_writer::proofs::Puts::wrote_fits))]
 fn table_text<G: SectionGraph>(heap: Global, graph: &G) -> Result<Vec<u8>, AllocError>
     ensures { IfOk result (λ v. v.items ≡ text_of (G.SectionGraph.graph graph.now)) }
 {
     let mut text = vec![in heap; 0u8; table_length(graph)]?;
-    let _ = write_table(graph, text.as_mut_slice());
+    write_table(graph, text.as_mut_slice()).unwrap();
     Ok(text)
 }
 
@@ -75,10 +77,7 @@ fn table_text<G: SectionGraph>(heap: Global, graph: &G) -> Result<Vec<u8>, Alloc
 fn refused(heap: Global, fault: &Fault) -> Failure
     ensures { IsFaultRow fault.now result }
 {
-    match fault_text(heap, fault) {
-        Ok(row) => Failure::Refused(row),
-        Err(error) => Failure::Memory(error),
-    }
+    fault_text(heap, fault).map_or_else(Failure::Memory, Failure::Refused)
 }
 
 // The table of a table that was read, swept and folded.
