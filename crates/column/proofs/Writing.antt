@@ -35,7 +35,3 @@ length_by_logarithm (Some k) n none low high small = length_by_power k n low hig
 pub length_minus : (minus : Bool) (size : ℕ) → length (signed minus size) ≡ length (decimal size) + from_bool minus
 length_minus true size = omega arith
 length_minus false size = omega arith
-
-pub minus_small : (minus : Bool) → from_bool minus ≤ 1
-minus_small true = omega arith
-minus_small false = omega arith

@@ -1,12 +1,8 @@
 -- How the bytes of a B row are counted, one column after another.
-use Rattle.std.proofs.Common.{◌≡◌, ℕ, suc, ◌+◌, ◌-◌, ◌*◌, ◌<◌, true, eqb, List, [], ◌∷◌, length, get_or, Some, None, Option, Ok, Err, Result, sym, refl, ap, ◌∙◌, subst, arith}
-use Rattle.std.specs.Prelude.{slice_get}
-use Rattle.std.specs.Option.{option_eq}
-use Rattle.std.proofs.lemmas.Option.{get_or_from_slice_get}
-use Rattle.std.proofs.lemmas.Bool.{cond-true, cond-false, eqb-true, eq-eqb, ne_eqb}
+use Rattle.std.proofs.Common.{◌≡◌, ℕ, suc, ◌+◌, ◌-◌, ◌*◌, ◌<◌, eqb, List, [], ◌∷◌, length, get_or, Ok, Err, Result, sym, refl, ap, ◌∙◌, subst, arith}
+use Rattle.std.proofs.lemmas.Bool.{cond-true, cond-false, eq-eqb, ne_eqb}
 use Rattle.row_part.specs.declared.Cause.{Cause}
 use Rattle.row_part.specs.Parts.{and_then, natural_at, end_at}
-use Rattle.row_part.proofs.Parts.{not_ten}
 use Rattle.row.specs.Reading.{counted, more_bytes, row_bytes}
 
 abbrev pub plus : ℕ → Result ℕ Cause → Result ℕ Cause
@@ -72,36 +68,23 @@ module _ (t : List ℕ) (k : ℕ) (some : k < 16) where
       ∙ plus_plus k (counted (more_bytes (15 - k) t (1 + 4 * k + 4)))
       )
 
--- the test for byte 10
-pub ten_from : (o : Option ℕ) → option_eq eqb o (Some 10) ≡ true → o ≡ Some 10
-ten_from None h = cc
-ten_from (Some x) h = ap (λ (n : ℕ). Some n) (eqb-true x 10 h)
+-- the same as the code has it: f is k, and x is the byte where column k starts
+module _ (t : List ℕ) (k f x : ℕ) (some : k < 16) (inv : Counting t k) (same : f ≡ k) (first : x ≡ get_or t (1 + 4 * f) 0) where
+  here : x ≡ get_or t (1 + 4 * k) 0
+  here = first ∙ ap (λ n. get_or t (1 + 4 * n) 0) same
 
--- the same as the code has it: f is k
-module _ (t : List ℕ) (k f : ℕ) (some : k < 16) (inv : Counting t k) (same : f ≡ k) where
-  pub stops : slice_get t (1 + 4 * f) ≡ Some 10 → Ok k ≡ counted (row_bytes t)
-  stops ten =
-      let here = ap (λ n. slice_get t (1 + 4 * n)) (sym same) ∙ ten in
-      sym (inv ∙ count_stops t k some (get_or_from_slice_get t (1 + 4 * k) 10 0 here))
+  pub stops : x ≡ 10 → Ok k ≡ counted (row_bytes t)
+  stops ten = sym (inv ∙ count_stops t k some (sym here ∙ ten))
 
-  other_here : (slice_get t (1 + 4 * f) ≡ Some 10 → ⊥) → get_or t (1 + 4 * k) 0 ≡ 10 → ⊥
-  other_here other = not_ten t (1 + 4 * k) (λ ten. other (ap (λ n. slice_get t (1 + 4 * n)) same ∙ ten))
-
-  pub fails : (e : Cause)
-      → (slice_get t (1 + 4 * f) ≡ Some 10 → ⊥)
-      → Err e ≡ natural_at 4 t (1 + 4 * f) 255
-      → Err e ≡ counted (row_bytes t)
+  pub fails : (e : Cause) → (x ≡ 10 → ⊥) → Err e ≡ natural_at 4 t (1 + 4 * f) 255 → Err e ≡ counted (row_bytes t)
   fails e other h =
       let bad = sym (h ∙ ap (λ n. natural_at 4 t (1 + 4 * n) 255) same) in
-      sym (inv ∙ count_fails t k some e (other_here other) bad)
+      sym (inv ∙ count_fails t k some e (λ ten. other (here ∙ ten)) bad)
 
-  pub more : (b : ℕ)
-      → (slice_get t (1 + 4 * f) ≡ Some 10 → ⊥)
-      → Ok b ≡ natural_at 4 t (1 + 4 * f) 255
-      → Counting t (k + 1)
+  pub more : (b : ℕ) → (x ≡ 10 → ⊥) → Ok b ≡ natural_at 4 t (1 + 4 * f) 255 → Counting t (k + 1)
   more b other h =
       let good = sym (h ∙ ap (λ n. natural_at 4 t (1 + 4 * n) 255) same) in
-      inv ∙ count_more t k some b (other_here other) good
+      inv ∙ count_more t k some b (λ ten. other (here ∙ ten)) good
 
 -- after sixteen the row ends
 

@@ -1,3 +1,2 @@
-mod Letters
 pub mod Bytes
 pub mod Rows

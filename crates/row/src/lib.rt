@@ -12,7 +12,7 @@ pub use row_part::Cause;
 use row_part::{alignment_at, byte_at, displacement_at, end_at, short_at, word_at};
 
 // A row of a table, with the part of the text that it occupies, byte 10 included.
-#[derive(Clone, Copy)]
+#[derive(Clone, Copy, PartialEq, Eq, Debug)]
 pub enum Row<'a> {
     Header {
         part: &'a [u8],
@@ -67,13 +67,21 @@ pub fn exact()
     ensures long { AsLong }
 {}
 
-// Reads the row that the text begins with. What follows the row does not matter. What is promised here follows from the
-// contract of `row_at`, which goes by the letter and tells where the row was cut.
+// Reads the row that the text begins with, by its letter. What follows the row does not matter.
+#[tactic(auto, using(crate::proofs::Rows::occupies), unfolding(crate::specs::Reading::read_row))]
 pub fn read_row(text: &[u8]) -> Result<Row<'_>, Cause>
     ensures row { answer result ≡ read_row text.now }
     ensures part { Occupies result }
 {
-    row_at(text)
+    match text {
+        [b'H', ..] => read_header(text),
+        [b'S', ..] => read_section(text),
+        [b'B', ..] => read_bytes(text),
+        [b'R', ..] => read_relocation(text),
+        [b'T', ..] => read_root(text),
+        [b'E', ..] => read_end(text),
+        _ => Err(Cause::Letter),
+    }
 }
 
 // The setting that a number stands for. The numbers belong to the table and not to the model, whose crate alone could
@@ -101,11 +109,11 @@ fn target_of(kind: u16, number: u16) -> Target
 fn record_at(text: &[u8]) -> Result<Record, Cause>
     ensures { result ≡ record_at text.now }
 {
-    let flags = word_at(12, text, 13, 4294967295)?;
+    let flags = word_at::<12>(text, 13, 4294967295)?;
     let alignment = alignment_at(text, 25)?;
-    let size = short_at(12, text, 37, 65535)?;
-    let relocations = short_at(12, text, 49, 65535)?;
-    let pinned = short_at(12, text, 61, 1)?;
+    let size = short_at::<12>(text, 37, 65535)?;
+    let relocations = short_at::<12>(text, 49, 65535)?;
+    let pinned = short_at::<12>(text, 61, 1)?;
     Ok(Record {
         flags,
         alignment,
@@ -118,16 +126,16 @@ fn record_at(text: &[u8]) -> Result<Record, Cause>
 fn target_at(text: &[u8]) -> Result<Target, Cause>
     ensures { result ≡ target_at text.now }
 {
-    let kind = short_at(12, text, 25, 1)?;
-    let number = short_at(12, text, 37, 65535)?;
+    let kind = short_at::<12>(text, 25, 1)?;
+    let number = short_at::<12>(text, 37, 65535)?;
     Ok(target_of(kind, number))
 }
 
 fn relocation_at(text: &[u8]) -> Result<Relocation, Cause>
     ensures { result ≡ relocation_at text.now }
 {
-    let offset = short_at(12, text, 1, 65534)?;
-    let kind = word_at(12, text, 13, 4294967295)?;
+    let offset = short_at::<12>(text, 1, 65534)?;
+    let kind = word_at::<12>(text, 13, 4294967295)?;
     let target = target_at(text)?;
     let displacement = displacement_at(text, 49, target)?;
     Ok(Relocation {
@@ -142,8 +150,8 @@ fn read_header(text: &[u8]) -> Result<Row<'_>, Cause>
     ensures row { answer result ≡ read_header text.now }
     ensures cut { Cut text.now result }
 {
-    let sections = short_at(12, text, 1, 1024)?;
-    let roots = short_at(12, text, 13, 4096)?;
+    let sections = short_at::<12>(text, 1, 1024)?;
+    let roots = short_at::<12>(text, 13, 4096)?;
     let part = end_at(text, 25)?;
     Ok(Row::Header {
         part,
@@ -156,7 +164,7 @@ fn read_section(text: &[u8]) -> Result<Row<'_>, Cause>
     ensures row { answer result ≡ read_section text.now }
     ensures cut { Cut text.now result }
 {
-    let number = short_at(12, text, 1, 1023)?;
+    let number = short_at::<12>(text, 1, 1023)?;
     let record = record_at(text)?;
     let part = end_at(text, 73)?;
     Ok(Row::Section {
@@ -170,18 +178,19 @@ fn read_section(text: &[u8]) -> Result<Row<'_>, Cause>
 fn byte_count(text: &[u8]) -> Result<u16, Cause>
     ensures { result ≡ counted (row_bytes text.now) }
 {
-    short_at(4, text, 1, 255)?;
+    short_at::<4>(text, 1, 255)?;
     for count in 1..16u16 {
         let at = 1 + 4 * usize::from(count);
-        if byte_at(text, at) == Some(b'\n') {
+        if byte_at(text, at) == b'\n' {
             return Ok(count);
         }
-        short_at(4, text, at, 255)?;
+        short_at::<4>(text, at, 255)?;
     }
     end_at(text, 65)?;
     Ok(16)
 }
 
+#[tactic(auto, using(crate::proofs::Rows::bytes_refused, crate::proofs::Rows::bytes_counted, crate::proofs::Rows::length_values))]
 fn read_bytes(text: &[u8]) -> Result<Row<'_>, Cause>
     ensures row { answer result ≡ read_bytes text.now }
     ensures cut { Cut text.now result }
@@ -204,7 +213,7 @@ fn read_root(text: &[u8]) -> Result<Row<'_>, Cause>
     ensures row { answer result ≡ read_root text.now }
     ensures cut { Cut text.now result }
 {
-    let section = short_at(12, text, 1, 65535)?;
+    let section = short_at::<12>(text, 1, 65535)?;
     let part = end_at(text, 13)?;
     Ok(Row::Root { part, section })
 }
@@ -213,24 +222,7 @@ fn read_end(text: &[u8]) -> Result<Row<'_>, Cause>
     ensures row { answer result ≡ read_end text.now }
     ensures cut { Cut text.now result }
 {
-    let present = short_at(12, text, 1, 1024)?;
+    let present = short_at::<12>(text, 1, 1024)?;
     let part = end_at(text, 13)?;
     Ok(Row::End { part, present })
-}
-
-// The row that the text begins with, by its letter.
-fn row_at(text: &[u8]) -> Result<Row<'_>, Cause>
-    ensures row { answer result ≡ read_by (slice_index text.now 0) text.now }
-    ensures cut { Cut text.now result }
-{
-    let letter = byte_at(text, 0).ok_or(Cause::Letter)?;
-    match char::from(letter) {
-        'H' => read_header(text),
-        'S' => read_section(text),
-        'B' => read_bytes(text),
-        'R' => read_relocation(text),
-        'T' => read_root(text),
-        'E' => read_end(text),
-        _ => Err(Cause::Letter),
-    }
 }

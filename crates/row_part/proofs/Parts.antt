@@ -4,9 +4,7 @@ use lib.Signed.{mag}
 use Rattle.std.specs.Fmt.{signed_decimal}
 use Rattle.std.specs.List.{AllByRecursion}
 use Rattle.std.proofs.lemmas.List.{length-append, length-drop, length-take-le, take-append-drop, take_at, drop_at, drop-drop, drop_more, get_or_past, get_or-drop}
-use Rattle.std.specs.Prelude.{slice_get}
-use Rattle.std.proofs.lemmas.Option.{slice_get-get_or}
-use Rattle.std.proofs.lemmas.Bool.{cases_lt, cond-true, cond-false, ne_eqb, eqb-true, eq-eqb, leb-true, le-leb}
+use Rattle.std.proofs.lemmas.Bool.{cases_lt, cond-true, eqb-true, eq-eqb, leb-true, le-leb}
 use Rattle.column.specs.Columns.{column, columns, read_column, column_of}
 use Rattle.column.proofs.Columns.{column_reads, column_only, length_column}
 use Rattle.row_part.specs.declared.Cause.TheVariants.{Column, Range, End}
@@ -96,17 +94,6 @@ end_held t at k h =
     go : get_or t at 0 ≡ 10 → (at < length t) ⊎ (length t ≤ at) → drop at t ≡ 10 ∷ drop (at + 1) t
     go ten (inl low) = drop_more t at 0 low ∙ ap (λ (x : ℕ). x ∷ drop (at + 1) t) ten
     go ten (inr high) = absurd (omega (arith, get_or_past t at 0 high, ten))
-
--- no byte 10 stands at a place
-pub not_ten : (t : List ℕ) (at : ℕ) → (slice_get t at ≡ Some 10 → ⊥) → get_or t at 0 ≡ 10 → ⊥
-not_ten t at other ten = go (cases_lt at (length t))
-  where
-    go : (at < length t) ⊎ (length t ≤ at) → ⊥
-    go (inl low) = other (slice_get-get_or t at 0 low ∙ ap (λ (x : ℕ). Some x) ten)
-    go (inr high) = absurd (omega (arith, get_or_past t at 0 high, ten))
-
-pub end_missed : (t : List ℕ) (at : ℕ) → (slice_get t at ≡ Some 10 → ⊥) → end_at t at ≡ Err End
-end_missed t at other = cond-false _ _ _ (ne_eqb (get_or t at 0) 10 (not_ten t at other))
 
 -- what is read where a number stands
 

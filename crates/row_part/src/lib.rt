@@ -3,7 +3,7 @@
 
 #![tactic(auto)]
 
-ghost use Rattle.std.specs.Prelude.{◌≡◌, ◌≤◌, IfOk, slice_get};
+ghost use Rattle.std.specs.Prelude.{◌≡◌, ◌≤◌, IfOk, slice_index};
 ghost use Rattle.model.specs.Laws.{highest};
 ghost use Rattle.row_part.specs.Parts.{column_at, natural_at, alignment_at, displacement_at, end_at, Ended};
 
@@ -23,45 +23,41 @@ pub enum Cause {
     End,
 }
 
-// The byte at a place, if the text goes on so far.
-pub fn byte_at(text: &[u8], at: usize) -> Option<u8>
-    ensures { result ≡ slice_get text.now at }
+// The byte at a place, 0 past the end. It is compared with letters and byte 10 alone, so 0 is as good as an option.
+pub fn byte_at(text: &[u8], at: usize) -> u8
+    ensures { result ≡ slice_index text.now at }
 {
-    text.get(at).copied()
+    text.get(at).copied().unwrap_or(0)
 }
 
-// The number in the columns from `at` on. A `match`: with two `get` and `?`, and without the hint to inline, rows were
-// read more slowly; the two were not measured apart. Where this is inlined, the width is a constant, and the loops over
-// the columns are unrolled.
-#[inline(always)]
-pub fn column_at(width: usize, text: &[u8], at: usize) -> Result<i64, Cause>
-    ensures { result ≡ column_at width text.now at }
+// The number in the columns from `at` on.
+pub fn column_at<const WIDTH: usize>(text: &[u8], at: usize) -> Result<i64, Cause>
+    ensures { result ≡ column_at WIDTH text.now at }
 {
     match text.get(at..) {
-        Some(rest) if rest.len() >= width => read_column(&rest[..width]).ok_or(Cause::Column),
+        Some(rest) if rest.len() >= WIDTH => read_column(&rest[..WIDTH]).ok_or(Cause::Column),
         _ => Err(Cause::Column),
     }
 }
 
-// A natural number of 32 bits, not above the limit. It is inlined for the same reason.
-#[inline(always)]
+// A natural number of 32 bits, not above the limit.
 #[tactic(auto, unfolding(crate::specs::Parts::natural_at))]
-pub fn word_at(width: usize, text: &[u8], at: usize, limit: u32) -> Result<u32, Cause>
-    ensures value { result ≡ natural_at width text.now at limit }
+pub fn word_at<const WIDTH: usize>(text: &[u8], at: usize, limit: u32) -> Result<u32, Cause>
+    ensures value { result ≡ natural_at WIDTH text.now at limit }
     ensures low { IfOk result (λ n. n ≤ limit) }
 {
-    match u32::try_from(column_at(width, text, at)?) {
+    match u32::try_from(column_at::<WIDTH>(text, at)?) {
         Ok(number) if number <= limit => Ok(number),
         _ => Err(Cause::Range),
     }
 }
 
-// A natural number of 16 bits, not above the limit. It is inlined for the same reason.
-#[inline(always)]
-pub fn short_at(width: usize, text: &[u8], at: usize, limit: u16) -> Result<u16, Cause>
-    ensures { result ≡ natural_at width text.now at limit }
+// A natural number of 16 bits, not above the limit. One generic function for both widths would need a trait with a law,
+// and an impl of it for each, which is longer than this.
+pub fn short_at<const WIDTH: usize>(text: &[u8], at: usize, limit: u16) -> Result<u16, Cause>
+    ensures { result ≡ natural_at WIDTH text.now at limit }
 {
-    let number = word_at(width, text, at, u32::from(limit))?;
+    let number = word_at::<WIDTH>(text, at, u32::from(limit))?;
     Ok(number as u16)
 }
 
@@ -69,7 +65,7 @@ pub fn short_at(width: usize, text: &[u8], at: usize, limit: u16) -> Result<u16,
 pub fn alignment_at(text: &[u8], at: usize) -> Result<u32, Cause>
     ensures { result ≡ alignment_at text.now at }
 {
-    let value = word_at(12, text, at, 65536)?;
+    let value = word_at::<12>(text, at, 65536)?;
     if is_alignment(u64::from(value)) {
         Ok(value)
     } else {
@@ -91,7 +87,7 @@ fn highest(target: Target) -> i64
 pub fn displacement_at(text: &[u8], at: usize, target: Target) -> Result<i64, Cause>
     ensures { result ≡ displacement_at text.now at target }
 {
-    let number = column_at(12, text, at)?;
+    let number = column_at::<12>(text, at)?;
     if (-2147483648..=highest(target)).contains(&number) {
         Ok(number)
     } else {
@@ -103,7 +99,7 @@ pub fn displacement_at(text: &[u8], at: usize, target: Target) -> Result<i64, Ca
 pub fn end_at(text: &[u8], at: usize) -> Result<&[u8], Cause>
     ensures { Ended text.now at result }
 {
-    if byte_at(text, at) == Some(b'\n') {
+    if byte_at(text, at) == b'\n' {
         Ok(&text[..=at])
     } else {
         Err(Cause::End)

@@ -1,10 +1,10 @@
 -- Columns written one after another over the front of a buffer.
 use Rattle.std.proofs.Common.{◌≡◌, ℕ, suc, ◌+◌, ◌-◌, ◌<◌, ◌≤◌, List, [], ◌∷◌, ◌++◌, map, length, get_or, take, drop, set, sum_by, ℤ, pos, sym, refl, ap, ◌∙◌, append_assoc, one-add, arith}
 use borrow.Rule.Slice.PartMut.{put_mid}
-use Rattle.std.proofs.lemmas.List.{append-nil, length-append, length-drop, length-take-le, take-append-drop, length-set, take_all, take_at, drop_all, drop_at, drop-drop, drop_more, set_at, get_or-map, length-map, take_more}
+use Rattle.std.proofs.lemmas.List.{append-nil, length-append, length-drop, length-take-le, take-append-drop, take_all, take_at, drop_all, drop_at, drop-drop, drop_more, set_at, get_or-map, length-map, take_more}
 use Rattle.std.proofs.lemmas.List.Recursion.{is_sum_by}
 use Rattle.column.specs.Columns.{column, columns}
-use Rattle.row_writer.specs.Writing.{over, Wide}
+use Rattle.row_writer.specs.Writing.{over, row_text, Wide}
 use Rattle.row_writer.proofs.Puts.{length_over}
 
 columns_append : (w : ℕ) (xs ys : List ℤ) → columns w (xs ++ ys) ≡ columns w xs ++ columns w ys
@@ -106,7 +106,7 @@ pub cell_at : {X : Type 0} (v : X → ℤ) (cells : List X) (i : ℕ) (x : X)
 cell_at v cells i x low is = (omega (arith, length-map cells v), ap v is ∙ sym (get_or-map v cells i x (pos 0) low))
 
 -- how long the columns are
-pub length_by_sum : {X : Type 0} (w : ℕ) (v : X → ℤ) (cells : List X)
+length_by_sum : {X : Type 0} (w : ℕ) (v : X → ℤ) (cells : List X)
     → length (columns w (map v cells)) ≡ sum_by (λ x. length (column w (v x))) cells
 length_by_sum w v cells =
     is_sum_by (λ xs. length (columns w (map v xs))) (λ x. length (column w (v x))) refl
@@ -117,34 +117,11 @@ length_by_sum w v cells =
 pub length_row : (c : ℕ) (cols : List ℕ) → length (c ∷ (cols ++ 10 ∷ [])) ≡ length cols + 2
 length_row c cols = omega (arith, length-append cols (10 ∷ []))
 
-pub part_length : (b : List ℕ) → length (take (length b - 1) (drop 1 b)) ≡ length b - 1
-part_length b = length-take-le (length b - 1) (drop 1 b) (omega (arith, length-drop 1 b))
-
-pub part_room : (c : ℕ) (cols b : List ℕ)
-    → length (c ∷ (cols ++ 10 ∷ [])) ≤ length b
-    → length cols ≤ length (take (length b - 1) (drop 1 b))
-part_room c cols b h = omega (arith, length_row c cols, part_length b)
-
-pub row_room : (c : ℕ) (cols b last : List ℕ)
-    → length (c ∷ (cols ++ 10 ∷ [])) ≤ length b
-    → last ≡ over cols (take (length b - 1) (drop 1 b))
-    → length (set (put_mid 1 (length b - 1) b last) 0 c) ≡ length b
-row_room c cols b last h e =
-    let part : List ℕ = take (length b - 1) (drop 1 b) in
-    let same : length last ≡ length b - 1 =
-    ap length e ∙ length_over cols part (part_room c cols b h) ∙ part_length b in
-    let none : length (drop (length b - 1) (drop 1 b)) ≡ 0 =
-    omega (arith, length-drop (length b - 1) (drop 1 b), length-drop 1 b) in
-    length-set (put_mid 1 (length b - 1) b last) 0 c
-    ∙ omega (
-      arith,
-      length-append (take 1 b) (last ++ drop (length b - 1) (drop 1 b)),
-      length-append last (drop (length b - 1) (drop 1 b)),
-      length-take-le 1 b (omega (arith, length_row c cols)),
-      length_row c cols,
-      same,
-      none,
-    )
+-- the length that a row of numbers needs
+pub length_needed : {X : Type 0} (c w : ℕ) (v : X → ℤ) (cells : List X) (n : ℕ)
+    → n ≡ sum_by (λ x. length (column w (v x))) cells
+    → n + 2 ≡ length (row_text c w (map v cells))
+length_needed c w v cells n e = omega (arith, e, length_by_sum w v cells, length_row c (columns w (map v cells)))
 
 pub row_filled : (c : ℕ) (cols b last : List ℕ) (stop : ℕ)
     → length cols + 2 ≤ length b

@@ -1,10 +1,11 @@
 -- Rows put into a buffer one after another.
-use Rattle.std.proofs.Common.{◌≡◌, ℕ, ◌+◌, ◌-◌, ◌<◌, ◌≤◌, leb, List, [], ◌++◌, length, take, drop, Ok, Err, sym, ap, ◌∙◌, append_assoc, arith}
+use Rattle.std.proofs.Common.{◌≡◌, ℕ, ◌+◌, ◌-◌, ◌<◌, ◌≤◌, leb, List, [], ◌++◌, length, take, drop, Ok, Err, Result, sym, ap, ◌∙◌, append_assoc, arith}
 use borrow.Rule.Slice.PartMut.{put_mid}
 use Rattle.std.specs.List.{between}
 use Rattle.std.proofs.lemmas.List.{append-nil, length-append, length-take-le, length-drop, take-append-drop, take_at, drop_at, drop-drop, drop_all}
 use Rattle.std.proofs.lemmas.Slice.{between_to_end}
 use Rattle.std.proofs.lemmas.Bool.{cond-true, cond-false, le-leb, lt-leb}
+use Rattle.fault.specs.declared.Fault.{Fault}
 use Rattle.row_writer.specs.Writing.{small, wrote, over, put, put_at}
 
 -- whether there is room
@@ -24,6 +25,26 @@ put_fits row b h = cond-true (leb (length row) (length b)) _ _ (le-leb (length r
 pub put_short : (row b : List ℕ) → length b < length row → put row b ≡ b
 unfolding put
 put_short row b h = cond-false (leb (length row) (length b)) _ _ (lt-leb (length row) (length b) h)
+
+-- a row of n bytes is refused, or taken
+
+pub refused : (row b : List ℕ) (n : ℕ)
+    → n ≡ length row
+    → length b < n
+    → (◌≡◌ {A = Result ℕ Fault} (Err (small n)) (wrote row b)) × (b ≡ put row b)
+refused row b n e h = (
+  ap (λ k. Err (small k)) e ∙ sym (wrote_short row b (omega (arith, e, h))),
+  sym (put_short row b (omega (arith, e, h))),
+)
+
+pub taken : (row b : List ℕ) (n : ℕ)
+    → n ≡ length row
+    → n ≤ length b
+    → (◌≡◌ {A = Result ℕ Fault} (Ok n) (wrote row b)) × (over row b ≡ put row b)
+taken row b n e h = (
+  ap (λ (k : ℕ). Ok k) e ∙ sym (wrote_fits row b (omega (arith, e, h))),
+  sym (put_fits row b (omega (arith, e, h))),
+)
 
 -- a text over the front
 

@@ -1,19 +1,17 @@
 -- How many columns a number takes.
-use Rattle.std.proofs.Common.{◌≡◌, ℕ, ◌+◌, ◌-◌, ◌≤◌, true, false, ltb, ◌++◌, length, replicate, ℤ, pos, negsuc, nat_abs, decimal, sym, refl, ap, ◌∙◌, arith}
+use Rattle.std.proofs.Common.{◌≡◌, ℕ, ◌+◌, ◌-◌, ◌≤◌, ◌++◌, length, replicate, ℤ, pos, negsuc, nat_abs, decimal, sym, refl, ap, ◌∙◌, arith}
 use lib.Signed.{lt_z}
 use Rattle.std.specs.Fmt.{signed_decimal}
-use Rattle.std.proofs.lemmas.Bool.{both_ways, le-ltb}
+use Rattle.std.specs.Int.{from_bool}
+use Rattle.std.proofs.lemmas.Bool.{le-ltb}
 use Rattle.column.specs.Columns.{column}
 use Rattle.column.proofs.Columns.{length_column}
 use Rattle.row_writer.specs.Writing.{Wide}
 
-pub negative_size : (z : ℤ) → lt_z z (pos 0) ≡ true → length (decimal (nat_abs z)) + 1 ≡ length (signed_decimal z)
-negative_size (pos n) h = absurd (both_ways (ltb n 0) (le-ltb n 0 (omega arith)) h)
-negative_size (negsuc n) h = omega arith
-
-pub positive_size : (z : ℤ) → lt_z z (pos 0) ≡ false → length (decimal (nat_abs z)) ≡ length (signed_decimal z)
-positive_size (pos n) h = refl
-positive_size (negsuc n) h = cc
+-- the minus takes one byte
+pub signed_length : (z : ℤ) → length (decimal (nat_abs z)) + from_bool (lt_z z (pos 0)) ≡ length (signed_decimal z)
+signed_length (pos n) = ap (λ b. length (decimal n) + from_bool b) (le-ltb n 0 (omega arith)) ∙ omega arith
+signed_length (negsuc n) = omega arith
 
 pub wide_due : (w : ℕ) (z : ℤ) → w ≤ 12 → length (signed_decimal z) ≤ w → Wide w z w
 wide_due w z few h = record { long = sym (length_column w z h); few = omega arith; room = h; same = refl }

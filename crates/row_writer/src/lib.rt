@@ -16,7 +16,7 @@ use fault::{Fault, Kind, Layer};
 use model::{Record, Relocation, Target};
 
 // A number to be written.
-#[derive(Clone, Copy)]
+#[derive(Clone, Copy, PartialEq, Eq, Debug)]
 pub enum Number {
     Natural(u64),
     Signed(i64),
@@ -64,15 +64,12 @@ impl From<i64> for Number {
 }
 
 // How many bytes a number is written with, its minus included.
+#[tactic(auto, using(crate::proofs::Widths::signed_length))]
 fn signed_size(z: i64) -> usize
     ensures long { result ≡ length (signed_decimal z) }
     ensures few { result ≤ 21 }
 {
-    if z < 0 {
-        digits(z.unsigned_abs()) + 1
-    } else {
-        digits(z as u64)
-    }
+    digits(z.unsigned_abs()) + usize::from(z < 0)
 }
 
 // What the columns of a row hold: bytes in four columns each, or other numbers in twelve.

@@ -1,25 +1,8 @@
-use Rattle.std.proofs.Common.{ℕ, ◌+◌, ◌-◌, ◌≤◌, map, length, take, drop, ℤ, ap, ◌∙◌, subst, arith, rules}
-use Rattle.std.proofs.lemmas.List.{length-map}
+use Rattle.std.proofs.Common.{ℕ, ◌+◌, ◌-◌, map, length, take, drop, ℤ, ap, ◌∙◌, subst, rules}
 use Rattle.column.specs.Columns.{column}
-use Rattle.row_writer.specs.Writing.{over, Wide}
-use Rattle.row_writer.proofs.Filled.{cell_at, room_more, write_more, so_far_all}
+use Rattle.row_writer.specs.Writing.{Wide}
+use Rattle.row_writer.proofs.Filled.{cell_at, room_more, write_more}
 use Rattle.row_writer.proofs.write_columns.Goals as goal
-
-pub overflow_add-past : goal.overflow_add-past
-overflow_add-past g c =
-    let w = g.T.Cell.due in
-    let v = g.T.Cell.integer in
-    let here = cell_at v c.args.cells.now c.loop-cell.cell-index c.cell-item.result c.loop-cell-test.true c.cell-item.is in
-    let wide = subst (λ (z : ℤ). Wide w z c.width.result) here.1 c.width.ensures in
-    let h =
-    room_more w (map v c.args.cells.now) c.loop-cell.cell-index c.loop-cell.at
-    c.width.result
-    c.args.out.now
-    here.0
-    c.requires
-    c.loop-cell.invariant.0
-    wide in
-    search rules
 
 pub slice_bounds-fill-end : goal.slice_bounds-fill-end
 slice_bounds-fill-end g c =
@@ -56,13 +39,3 @@ loop-cell-preserved g c =
     c.loop-cell.invariant.1
     wide
     (c.fill.ensures ∙ ap (column part) here.1)
-
-pub returns : goal.returns
-returns g c =
-    let end : length (map g.T.Cell.integer c.args.cells.now) ≤ c.loop-cell.cell-index =
-    omega (arith, length-map c.args.cells.now g.T.Cell.integer, c.loop-cell-test.false) in
-    let all = so_far_all g.T.Cell.due (map g.T.Cell.integer c.args.cells.now) c.loop-cell.cell-index end in
-    record {
-      end = c.loop-cell.invariant.0 ∙ ap length all;
-      text = c.loop-cell.invariant.1 ∙ ap (λ x. over x c.args.out.now) all;
-    }
