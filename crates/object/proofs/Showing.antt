@@ -1,14 +1,13 @@
 -- The answers to the questions, from what is read and noted.
-use Rattle.std.proofs.Common.{◌≡◌, ℕ, ◌+◌, ◌*◌, ◌/◌, ◌<◌, ◌≤◌, max, Bool, true, false, cond, not, ◌&&◌, ◌==◌, ltb, leb, ◌⊎◌, List, map, length, get_or, take, drop, replicate, is_some, Some, None, Ok, Err, Option, sym, refl, ap, ◌∙◌, subst, inl, inr, arith}
+use Rattle.std.proofs.Common.{slice_index_or, IfSome, ◌≡◌, ℕ, ◌+◌, ◌*◌, ◌/◌, ◌<◌, ◌≤◌, max, Bool, true, false, cond, not, ◌&&◌, ◌==◌, leb, List, map, length, get_or, take, drop, replicate, is_some, Some, None, Ok, Err, Option, sym, refl, ap, ◌∙◌, subst, arith}
 use Rattle.std.specs.List.{slice_get, range_with_len}
-use Rattle.std.specs.Result.{result_ok, result_unwrap_or}
-use Rattle.std.proofs.lemmas.Bool.{cases_lt, eq-eqb, ne_eqb, eqb-true, eqb-false, ltb-true, lt-ltb, le-leb, leb-false}
-use Rattle.std.proofs.lemmas.List.{get_or-replicate, get_or-map, get_or-take, get_or-drop, length-replicate, length-take, length-drop}
+use Rattle.std.specs.Result.{result_unwrap_or}
+use Rattle.std.proofs.lemmas.Bool.{ne_eqb, eqb-true, eqb-false, le-leb, leb-false}
+use Rattle.std.proofs.lemmas.List.{get_or_read, get_or-map, get_or-take, get_or-drop, length-take, length-drop}
 use Rattle.std.proofs.lemmas.List.FromFn.{get_or-map-range_with_len, length-map-range_with_len}
 use Rattle.std.proofs.lemmas.Option.{slice_get-get_or, slice_get_past}
-use Rattle.model.specs.declared.Setting.{Setting}
 use Rattle.model.specs.declared.Setting.TheVariants.{Foldable, Pinned}
-use Rattle.model.specs.Graph.{Body, section_of, told_record, record_of, told_byte, byte_of, told_relocation, relocation_of}
+use Rattle.model.specs.Graph.{Body, section_of, count_of, told_record, record_of, told_byte, byte_of, told_relocation, relocation_of}
 use Rattle.elf.specs.declared.Header.{Header}
 use Rattle.elf.specs.Layout.{sections, section, present, plain, entry_at}
 use Rattle.rules.specs.Rules.{part, symbol}
@@ -16,50 +15,37 @@ use Rattle.rules.specs.Listing.{significance, listed}
 use Rattle.rules.specs.Notes.{part_note, listed_in, marks_of, Noted}
 use Rattle.rules.specs.Listing.{listing}
 use Rattle.rules.specs.declared.Notes.{Notes}
-use Rattle.object.specs.Meaning.{flags_of, alignment_of, low, bytes_of, relocation_at, relocations_in, setting_of, body, meaning}
-use Rattle.object.specs.Held.{held, header_of, shown, unlisted}
+use Rattle.object.specs.Meaning.{flags_of, alignment_of, low, bytes_of, relocation_at, relocations_in, setting_of, body, told_section, meaning}
+use Rattle.object.specs.Held.{held, unlisted}
 use Rattle.field.specs.Fields.{half, within, short}
 use Rattle.elf.specs.Layout.{place}
 use Rattle.rules.specs.Rules.{relocates}
 use Rattle.reading.proofs.Firsts.{first_where_is}
-use Rattle.object.specs.Facts.{Facts, held_facts, held_short, header_ends, Sound, sound, bytes_length, Whole, whole, entered, tables, value_within, inside}
+use Rattle.object.specs.Facts.{Facts, held_facts, held_few, held_short, header_ends, sound, bytes_length, Whole, whole, entered, tables, value_within, inside, Seen, PartSeen}
 use Rattle.object.specs.Held.{Ready}
-use Rattle.object.specs.Lawful.{section_at, section_past, range_low, range_high}
+use Rattle.object.specs.Lawful.{aligned_small, section_at, range_low, range_high}
 
--- a section that is shown: its header, and what it is in the graph
-pub record Seen (b : List ℕ) (s : ℕ) (h : Header) : Type 0 where
-  pub below : s < sections b
-  pub header : h ≡ section b s
-  pub sound : Sound b h
-  pub body : section_of (meaning b) s ≡ Some (body b s)
+-- how many sections there are
+pub count_told : (b : List ℕ) → count_of (meaning b) ≡ sections b
+count_told b = length-map-range_with_len (told_section b) 0 (sections b)
 
-pub seen : (b : List ℕ) (s : ℕ) (h : Header) → held b ≡ true → Some h ≡ shown b s → Seen b s h
-seen b s h w e = go (ltb s (sections b)) (present (section b s)) refl refl e
-  where
-    go : (x y : Bool) → ltb s (sections b) ≡ x → present (section b s) ≡ y → Some h ≡ cond (x && y) (Some (section b s)) None → Seen b s h
-    go true true p q e' =
-        let l = ltb-true s (sections b) p
-        in let same : h ≡ section b s = cc
-        in record {
-          below = l;
-          header = same;
-          sound = rw same (sound b s (held_facts b s w l) l q);
-          body = section_at b s l ∙ ap (λ (t : Bool). cond t (Some (body b s)) None) q;
-        }
-    go true false p q e' = let z : ◌≡◌ {A = ℕ} 0 1 = cc in absurd (omega arith)
-    go false y p q e' = let z : ◌≡◌ {A = ℕ} 0 1 = cc in absurd (omega arith)
+-- a section that is no part of the graph is absent
+pub shown_absent : (b : List ℕ) (s : ℕ) → s < sections b → present (section b s) ≡ false → section_of (meaning b) s ≡ None
+shown_absent b s l q = section_at b s l ∙ ap (λ (t : Bool). cond t (Some (body b s)) None) q
 
--- a section that is not shown is absent
-pub shown_none : (b : List ℕ) (s : ℕ) → None ≡ shown b s → section_of (meaning b) s ≡ None
-shown_none b s e = go (cases_lt s (sections b)) (present (section b s)) refl
-  where
-    go : (s < sections b) ⊎ (sections b ≤ s) → (y : Bool) → present (section b s) ≡ y → section_of (meaning b) s ≡ None
-    go (inr l) y q = section_past b s l
-    go (inl l) false q = section_at b s l ∙ ap (λ (t : Bool). cond t (Some (body b s)) None) q
-    go (inl l) true q =
-        let lt = lt-ltb s (sections b) l
-        in let f : None ≡ Some (section b s) = e ∙ (ap (λ (t : Bool). cond (t && present (section b s)) (Some (section b s)) None) lt ∙ ap (λ (t : Bool). cond t (Some (section b s)) None) q)
-        in let z : ◌≡◌ {A = ℕ} 0 1 = cc in absurd (omega arith)
+pub shown_seen : (b : List ℕ) (s : ℕ) (h : Header) → held b ≡ true → s < sections b → h ≡ section b s → present h ≡ true → Seen b s h
+shown_seen b s h w l e q =
+    let p : present (section b s) ≡ true = ap present (sym e) ∙ q
+    in let k = sound b s (held_facts b s w l) l p
+    in let few = held_few b w
+    in record {
+      below = l;
+      few = omega arith;
+      header = e;
+      sound = rw e k;
+      aligned = aligned_small h.alignment (rw e k.alignment);
+      body = section_at b s l ∙ ap (λ (t : Bool). cond t (Some (body b s)) None) p;
+    }
 
 -- what is noted
 pub part_noted : (b : List ℕ) (x : Notes) (s : ℕ) → Noted b x → s < 1024 → get_or x.parts s None ≡ part b s (sections b)
@@ -76,7 +62,7 @@ listed_noted b x s w l = ap (λ (o : Option (List Bool)). unlisted o s) w.listed
 byte_in : (b : List ℕ) (s i : ℕ) (h : Header) → Seen b s h → byte_of (meaning b) s i ≡ slice_get (bytes_of b h) i
 byte_in b s i h w = ap (λ (o : Option Body). told_byte o i) w.body ∙ ap (λ (x : Header). slice_get (bytes_of b x) i) (sym w.header)
 
-pub byte_some : (b : List ℕ) (s i : ℕ) (h : Header) → Seen b s h → i < h.size → (h.kind ≡ 8 → ⊥) → byte_of (meaning b) s i ≡ Some (low (get_or b (h.offset + i) 0))
+byte_some : (b : List ℕ) (s i : ℕ) (h : Header) → Seen b s h → i < h.size → (h.kind ≡ 8 → ⊥) → byte_of (meaning b) s i ≡ Some (low (get_or b (h.offset + i) 0))
 byte_some b s i h w l k =
     let len = bytes_length b h w.sound
     in let here : i < length (bytes_of b h) = omega arith
@@ -90,24 +76,20 @@ byte_some b s i h w l k =
     shorter : h.offset + h.size ≤ length b → i < length (take h.size (drop h.offset b))
     shorter e = simp (length-take, length-drop) (omega arith)
 
-pub byte_zero : (b : List ℕ) (s i : ℕ) (h : Header) → Seen b s h → i < h.size → h.kind ≡ 8 → byte_of (meaning b) s i ≡ Some 0
-byte_zero b s i h w l k =
-    byte_in b s i h w
-    ∙ (ap (λ (t : Bool). slice_get (cond t (replicate h.size 0) (map low (take h.size (drop h.offset b)))) i) (eq-eqb h.kind 8 k)
-    ∙ (slice_get-get_or (replicate h.size 0) i 0 (omega (arith, length-replicate {A = ℕ} h.size 0)) ∙ ap Some (get_or-replicate {A = ℕ} h.size i 0 0 l)))
-
-pub byte_past : (b : List ℕ) (s i : ℕ) (h : Header) → Seen b s h → h.size ≤ i → byte_of (meaning b) s i ≡ None
-byte_past b s i h w l = byte_in b s i h w ∙ slice_get_past (bytes_of b h) i (omega (arith, bytes_length b h w.sound))
-
-pub byte_none : (b : List ℕ) (s i : ℕ) → None ≡ shown b s → byte_of (meaning b) s i ≡ None
-byte_none b s i e = ap (λ (o : Option Body). told_byte o i) (shown_none b s e)
+pub byte_read : (b : List ℕ) (s i x : ℕ) (h : Header) → Seen b s h → i < h.size → (h.kind ≡ 8 → ⊥) → x ≡ slice_index_or b (h.offset + i) x → x < 256
+    → byte_of (meaning b) s i ≡ Some x
+byte_read b s i x h w l k e m =
+    let ends = w.sound.ends k
+    in let read : x ≡ get_or b (h.offset + i) 0 = get_or_read b (h.offset + i) x (omega arith) e 0
+    in let same : low (get_or b (h.offset + i) 0) ≡ x = omega arith
+    in byte_some b s i h w l k ∙ ap Some same
 
 -- what ends within the bytes is read
-pub part_read : {A : Type 0} (b : List ℕ) (p size : ℕ) (y : A) → p + size ≤ length b → result_ok (within b p size y) ≡ Some y
-part_read b p size y l = ap (λ (t : Bool). result_ok (cond t (Ok y) (Err (short b)))) (le-leb (p + size) (length b) l)
+pub part_read : {A : Type 0} (b : List ℕ) (p size : ℕ) (y : A) → p + size ≤ length b → within b p size y ≡ Ok y
+part_read b p size y l = ap (λ (t : Bool). cond t (Ok y) (Err (short b))) (le-leb (p + size) (length b) l)
 
 -- the header of a section is there
-pub header_read : (b : List ℕ) (s : ℕ) → held b ≡ true → s < sections b → result_ok (within b (place b s) 64 (section b s)) ≡ Some (section b s)
+pub header_read : (b : List ℕ) (s : ℕ) → held b ≡ true → s < sections b → within b (place b s) 64 (section b s) ≡ Ok (section b s)
 header_read b s h l = part_read b (place b s) 64 (section b s) (header_ends b s (held_facts b s h l) l)
 
 -- how many sections there are: none where there is no file
@@ -119,31 +101,17 @@ count_read b h = go (leb 62 (length b)) refl
     go false q = held_short b h (leb-false 62 (length b) q)
 
 -- the section with the relocations is one of the sections
-pub part_below : (b : List ℕ) (s r : ℕ) → part b s (sections b) ≡ Some r → r < sections b
-part_below b s r e = (first_where_is (relocates b s) (sections b) r e).0
-
--- the section with the relocations of section s, by its header
-pub record PartSeen (b : List ℕ) (s : ℕ) (p : Header) : Type 0 where
-  pub number : ℕ
-  pub is_part : part b s (sections b) ≡ Some number
-  pub header : p ≡ section b number
-  pub few : p.size / 24 ≤ 65535
-  pub ends : p.offset + p.size ≤ length b
-  pub whole : Whole b s number
-
-pub part_seen : (b : List ℕ) (s : ℕ) (p : Header) → held b ≡ true → s < sections b → Some p ≡ header_of b (part b s (sections b)) → PartSeen b s p
-part_seen b s p h l e = go (part b s (sections b)) refl e
+pub part_below : (b : List ℕ) (x : Notes) (s : ℕ) → Noted b x → s < 1024 → IfSome (slice_index_or x.parts s None) (λ r. r < sections b)
+part_below b x s w l = subst (λ (o : Option ℕ). IfSome o (λ r. r < sections b)) (sym (part_noted b x s w l)) (go (part b s (sections b)) refl)
   where
-    go : (o : Option ℕ) → part b s (sections b) ≡ o → Some p ≡ header_of b o → PartSeen b s p
-    go None q e' = let z : ◌≡◌ {A = ℕ} 0 1 = cc in absurd (omega arith)
-    go (Some r) q e' =
-        let w = whole b s r (held_facts b s h l) q
-        in let same : p ≡ section b r = cc
-        in record { number = r; is_part = q; header = same; few = rw same w.few; ends = rw same w.ends; whole = w }
+    go : (o : Option ℕ) → part b s (sections b) ≡ o → IfSome o (λ r. r < sections b)
+    go None e = tt
+    go (Some r) e = (first_where_is (relocates b s) (sections b) r e).0
 
-part_gone : (b : List ℕ) (o : Option ℕ) → None ≡ header_of b o → o ≡ None
-part_gone b None e = refl
-part_gone b (Some r) e = let z : ◌≡◌ {A = ℕ} 0 1 = cc in absurd (omega arith)
+pub part_seen : (b : List ℕ) (s r : ℕ) → held b ≡ true → s < sections b → part b s (sections b) ≡ Some r → PartSeen b s (section b r)
+part_seen b s r h l q =
+    let w = whole b s r (held_facts b s h l) q
+    in record { number = r; is_part = q; header = refl; few = w.few; ends = w.ends; whole = w }
 
 -- how many relocations a section has
 pub count_seen : (b : List ℕ) (s : ℕ) (p : Header) → PartSeen b s p → p.size / 24 ≡ length (relocations_in b (part b s (sections b)))
@@ -173,14 +141,6 @@ relocation_past b s j h p w q l =
     relocation_in b s j h p w q
     ∙ slice_get_past (map (relocation_at b p.offset) (range_with_len 0 (p.size / 24))) j (omega (arith, length-map-range_with_len (relocation_at b p.offset) 0 (p.size / 24)))
 
-pub relocation_none : (b : List ℕ) (s j : ℕ) (h : Header) → Seen b s h → None ≡ header_of b (part b s (sections b)) → relocation_of (meaning b) s j ≡ None
-relocation_none b s j h w e =
-    ap (λ (o : Option Body). told_relocation o j) w.body
-    ∙ ap (λ (o : Option ℕ). slice_get (relocations_in b o) j) (part_gone b (part b s (sections b)) e)
-
-pub relocation_hidden : (b : List ℕ) (s j : ℕ) → None ≡ shown b s → relocation_of (meaning b) s j ≡ None
-relocation_hidden b s j e = ap (λ (o : Option Body). told_relocation o j) (shown_none b s e)
-
 -- the alignment as the larger of it and 1
 pub alignment_is : (h : Header) → max h.alignment 1 ≡ alignment_of h
 alignment_is h = go (h.alignment == 0) refl
@@ -189,23 +149,22 @@ alignment_is h = go (h.alignment == 0) refl
     go true q = grind (arith, eqb-true h.alignment 0 q)
     go false q = grind (arith, eqb-false h.alignment 0 q)
 
--- the record of a section that is shown
-pub record_is : (b : List ℕ) (s al rl : ℕ) (st : Setting) (h : Header) → Seen b s h → al ≡ alignment_of h
-    → rl ≡ length (relocations_in b (part b s (sections b))) → st ≡ setting_of b s
-    → Some (record { flags = flags_of h; alignment = al; size = h.size; relocations = rl; setting = st }) ≡ record_of (meaning b) s
-record_is b s al rl st h w e1 e2 e3 =
-    let size : h.size ≡ length (bytes_of b (section b s)) = sym (bytes_length b h w.sound) ∙ ap (λ (x : Header). length (bytes_of b x)) w.header
-    in let flags : flags_of h ≡ flags_of (section b s) = ap flags_of w.header
-    in let alignment : al ≡ alignment_of (section b s) = e1 ∙ ap alignment_of w.header
-    in (λ i. Some (record { flags = flags i; alignment = alignment i; size = size i; relocations = e2 i; setting = e3 i })) ∙ sym (ap told_record w.body)
-
 -- the setting from the notes
-pub setting_is : (b : List ℕ) (x : Notes) (s : ℕ) (h : Header) (r : Setting) → Noted b x → s < 1024 → h ≡ section b s
-    → r ≡ cond (plain h && unlisted x.listed s) Foldable Pinned → r ≡ setting_of b s
-setting_is b x s h r w l e q =
-    q
-    ∙ (ap (λ (y : Header). cond (plain y && unlisted x.listed s) Foldable Pinned) e
-    ∙ ap (λ (y : Bool). cond (plain (section b s) && y) Foldable Pinned) (listed_noted b x s w l))
+setting_is : (b : List ℕ) (x : Notes) (s : ℕ) (h : Header) → Noted b x → Seen b s h → setting_of b s ≡ cond (plain h && unlisted x.listed s) Foldable Pinned
+setting_is b x s h r w =
+    sym (ap (λ (y : Header). cond (plain y && unlisted x.listed s) Foldable Pinned) w.header
+    ∙ ap (λ (y : Bool). cond (plain (section b s) && y) Foldable Pinned) (listed_noted b x s r w.few))
+
+-- the record of a section that is shown
+pub record_is : (b : List ℕ) (x : Notes) (s : ℕ) (h : Header) → Noted b x → Seen b s h
+    → record_of (meaning b) s ≡ Some (record { flags = flags_of h; alignment = max h.alignment 1; size = h.size; relocations = length (relocations_in b (part b s (sections b))); setting = cond (plain h && unlisted x.listed s) Foldable Pinned })
+record_is b x s h r w =
+    let size : length (bytes_of b (section b s)) ≡ h.size = ap (λ (x : Header). length (bytes_of b x)) (sym w.header) ∙ bytes_length b h w.sound
+    in let flags : flags_of (section b s) ≡ flags_of h = ap flags_of (sym w.header)
+    in let alignment : alignment_of (section b s) ≡ max h.alignment 1 = ap alignment_of (sym w.header) ∙ sym (alignment_is h)
+    in let setting = setting_is b x s h r w
+    in ap told_record w.body
+    ∙ (λ i. Some (record { flags = flags i; alignment = alignment i; size = size i; relocations = length (relocations_in b (part b s (sections b))); setting = setting i }))
 
 -- each entry with a relocation can be told as one
 pub ready : (b : List ℕ) (s j : ℕ) (p : Header) → held b ≡ true → s < sections b → PartSeen b s p → j < p.size / 24 → Ready b (p.offset + 24 * j)

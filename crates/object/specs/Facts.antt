@@ -15,7 +15,8 @@ use Rattle.rules.specs.Rules.{head_rule, identified, extent_rule, content_rule, 
 use Rattle.rules.specs.Verdict.{accepted, from_extents, from_contents, from_only_table, from_table, from_relocations, from_only_listing}
 use Rattle.reading.proofs.Firsts.{first_where_is, only_is, extent_is}
 use Rattle.reading.proofs.Parting.{passed}
-use Rattle.object.specs.Meaning.{bytes_of, low}
+use Rattle.object.specs.Meaning.{bytes_of, low, body, meaning}
+use Rattle.model.specs.Graph.{section_of}
 use Rattle.object.specs.Held.{held}
 
 pub record Facts (b : List ℕ) : Type 0 where
@@ -237,3 +238,21 @@ inside b y e o = go (or_cases (outside y.section) (nat_lt y.section (sections b)
     go (inr t) =
         let q = and_parts (nat_lt y.section (sections b)) (present (section b y.section)) t
         in (ltb-true y.section (sections b) q.0, q.1)
+
+-- a present section: its header, and what it is in the graph
+pub record Seen (b : List ℕ) (s : ℕ) (h : Header) : Type 0 where
+  pub below : s < sections b
+  pub few : s < 1024
+  pub header : h ≡ section b s
+  pub sound : Sound b h
+  pub aligned : h.alignment < 2 ^ 32
+  pub body : section_of (meaning b) s ≡ Some (body b s)
+
+-- the section with the relocations of section s, by its header
+pub record PartSeen (b : List ℕ) (s : ℕ) (p : Header) : Type 0 where
+  pub number : ℕ
+  pub is_part : part b s (sections b) ≡ Some number
+  pub header : p ≡ section b number
+  pub few : p.size / 24 ≤ 65535
+  pub ends : p.offset + p.size ≤ length b
+  pub whole : Whole b s number

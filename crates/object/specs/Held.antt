@@ -1,24 +1,14 @@
 -- What a reader holds: no file, or one that was accepted, and its notes.
-use Rattle.std.specs.Prelude.{◌≡◌, ℕ, ◌+◌, ◌*◌, ◌^◌, ◌<◌, ◌≤◌, Bool, false, cond, not, ◌&&◌, ◌||◌, List, length, pos, negsuc, ◌≤ℤ◌, Some, None, Option, ◌==◌, nat_lt, slice_index_or}
-use Rattle.elf.specs.declared.Header.{Header}
+use Rattle.std.specs.Prelude.{◌≡◌, ℕ, ◌+◌, ◌*◌, ◌^◌, ◌<◌, ◌≤◌, Bool, false, not, ◌||◌, List, length, pos, negsuc, ◌≤ℤ◌, Some, None, Option, ◌==◌, slice_index_or}
 use Rattle.elf.specs.declared.Symbol.{Symbol}
 use Rattle.elf.specs.declared.Entry.{Entry}
-use Rattle.elf.specs.Layout.{sections, section, present, outside, entry_at}
+use Rattle.elf.specs.Layout.{outside, entry_at}
 use Rattle.rules.specs.Verdict.{accepted}
 use Rattle.rules.specs.Rules.{symbol, symbols}
 
 -- no file, or one that meets every rule
 abbrev pub held : List ℕ → Bool
 held b = length b == 0 || accepted b
-
--- the header of a section that may be missing
-abbrev pub header_of : List ℕ → Option ℕ → Option Header
-header_of b None = None
-header_of b (Some i) = Some (section b i)
-
--- the header of section s, where it is present
-abbrev pub shown : List ℕ → ℕ → Option Header
-shown b s = cond (nat_lt s (sections b) && present (section b s)) (Some (section b s)) None
 
 -- the marks of sections are there, and section s has none
 abbrev pub unlisted : Option (List Bool) → ℕ → Bool

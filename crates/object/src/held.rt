@@ -1,18 +1,20 @@
 // The reader of objects: what it holds, what it does, and its answers as a section graph, from the bytes and the notes on
 // them, with no search.
-ghost use Rattle.std.specs.Prelude.{◌≡◌, ◌<◌, true, ◌&&◌, length, if◌then◌else◌, Some};
-ghost use Rattle.elf.specs.Layout.{sections, section, entry_at, plain};
+ghost use Rattle.std.specs.Prelude.{◌≡◌, ◌<◌, true, ◌&&◌, [], if◌then◌else◌, length, Some, None, MatchOption};
+ghost use Rattle.elf.specs.Layout.{sections, section, plain, entry_at};
 ghost use Rattle.model.specs.declared.Setting.TheVariants.{Foldable, Pinned};
-ghost use Rattle.model.specs.Graph.{empty, record_of, byte_of, relocation_of, root_count_of, root_of};
+ghost use Rattle.model.specs.Graph.{empty, section_of, record_of, byte_of, relocation_of};
 ghost use Rattle.checklist.specs.Checks.{answer};
 ghost use Rattle.checklist.specs.Laws.{Verdict};
 ghost use Rattle.rules.specs.Rules.{part, symbol};
-ghost use Rattle.rules.specs.Notes.{roots, Noted};
+ghost use Rattle.rules.specs.Notes.{parts, Noted};
 ghost use Rattle.rules.specs.Verdict.{checks, verdict};
 ghost use Rattle.object.specs.Meaning.{relocation_of_entry, relocations_in};
-ghost use Rattle.object.specs.Held.{held, header_of, shown, unlisted, Told, Ready};
+ghost use Rattle.object.specs.Held.{held, unlisted, Told, Ready};
+ghost use Rattle.object.specs.Facts.{Seen, PartSeen};
 
 use arrayvec::ArrayVec;
+use elf::kind::NO_BITS;
 use elf::{Entry, Header, Symbol, read_entry, read_section, read_symbol};
 use fault::Fault;
 use field::read;
@@ -21,6 +23,27 @@ use model::{Record, Relocation, Setting, Target};
 use reading::examine;
 use rules::{Notes, Symbols};
 use std::alloc::Global;
+
+// No section has relocations.
+#[tactic(auto, using(crate::proofs::Holding::none_parted))]
+fn no_parts() -> [Option<u16>; 1024]
+    ensures { result ≡ parts [] }
+{
+    [None; 1024]
+}
+
+// The notes on no file.
+#[tactic(auto, unfolding(field::specs::Fields::half))]
+fn no_notes() -> Notes
+    ensures { Noted [] result }
+{
+    Notes {
+        symbols: Symbols { from: 0, count: 0 },
+        parts: no_parts(),
+        listed: None,
+        roots: ArrayVec::new(),
+    }
+}
 
 // A reader of ELF64 objects. It holds the file that it read last, and at first none.
 #[derive(Drop)]
@@ -33,6 +56,15 @@ pub struct Object {
     ghost noted: { Noted file.items notes },
 }
 
+// A present section of the object that a reader holds: its number and its header.
+#[derive(Clone, Copy)]
+struct Shown<'a> {
+    object: &'a Object,
+    number: u16,
+    header: Header,
+    ghost seen: { Seen object.now.file.items number header },
+}
+
 impl Object {
     ghost use Rattle.object.specs.Reader.{graph_of, file_of, after};
 
@@ -42,12 +74,7 @@ impl Object {
     {
         Object {
             file: Vec::new(heap),
-            notes: Notes {
-                symbols: Symbols { from: 0, count: 0 },
-                parts: [None; 1024],
-                listed: None,
-                roots: ArrayVec::new(),
-            },
+            notes: no_notes(),
         }
     }
 
@@ -64,60 +91,75 @@ impl Object {
         Ok(())
     }
 
-    // How many sections there are.
-    #[tactic(auto, using(crate::proofs::Showing::count_read))]
-    fn sections(&self) -> u16
-        ensures { result ≡ sections (file_of self.now) }
-    {
-        read(self.file.as_slice(), 60).unwrap_or(0)
-    }
-
     // The header of section `i`.
     #[tactic(auto, using(crate::proofs::Showing::header_read))]
-    fn section(&self, i: u16) -> Option<Header>
+    fn section(&self, i: u16) -> Header
         requires { i < sections (file_of self.now) }
-        ensures { result ≡ Some (section (file_of self.now) i) }
+        ensures { result ≡ section (file_of self.now) i }
     {
-        read_section(self.file.as_slice(), i).ok()
+        read_section(self.file.as_slice(), i).unwrap()
     }
 
-    // The header of section `s`, where it is present.
-    fn shown(&self, s: u16) -> Option<Header>
-        ensures { result ≡ shown (file_of self.now) s }
+    // The relocation of the entry at `q`.
+    fn relocation_from(&self, q: u64) -> Relocation
+        requires { Ready (file_of self.now) q }
+        ensures { result ≡ relocation_of_entry (symbol (file_of self.now) (entry_at (file_of self.now) q).symbol) (entry_at (file_of self.now) q) }
     {
-        if s >= self.sections() {
+        let b = self.file.as_slice();
+        let e = read_entry(b, q).unwrap();
+        let y = read_symbol(b, self.notes.symbols.from + 24 * e.symbol as u64).unwrap();
+        told(y, e)
+    }
+
+    // Section `s`, where it is present.
+    #[tactic(auto, using(crate::proofs::Showing::count_told, crate::specs::Lawful::section_past, crate::proofs::Showing::shown_absent, crate::proofs::Showing::shown_seen))]
+    fn shown(&self, s: u16) -> Option<Shown<'_>>
+        ensures { MatchOption result (section_of (graph_of self.now) s ≡ None) (λ x. (x.object.now ≡ self.now) × (x.number ≡ s)) }
+    {
+        if s >= self.count() {
             return None;
         }
-        self.section(s).filter(|h| h.is_present())
+        let header = self.section(s);
+        if !header.is_present() {
+            return None;
+        }
+        Some(Shown {
+            object: self,
+            number: s,
+            header,
+        })
+    }
+}
+
+impl<'a> Shown<'a> {
+    ghost use Rattle.object.specs.Reader.{graph_of, file_of};
+
+    // The header of the section with its relocations, where there is one.
+    #[tactic(auto, using(crate::proofs::Showing::part_noted, crate::proofs::Showing::part_below, crate::proofs::Showing::part_seen))]
+    fn part(&self) -> Option<Header>
+        ensures { MatchOption result (part (file_of self.now.object.now) self.now.number (sections (file_of self.now.object.now)) ≡ None) (λ p. PartSeen (file_of self.now.object.now) self.now.number p) }
+    {
+        Some(
+            self.object
+                .section(self.object.notes.parts[self.number as usize]?),
+        )
     }
 
-    // The header of the section with the relocations of section `s`, where there is one.
-    fn part(&self, s: u16) -> Option<Header>
-        requires { s < sections (file_of self.now) }
-        ensures { result ≡ header_of (file_of self.now) (part (file_of self.now) s (sections (file_of self.now))) }
+    // How many relocations it has.
+    #[tactic(auto, using(crate::proofs::Showing::count_seen))]
+    fn relocation_count(&self) -> u16
+        ensures { result ≡ length (relocations_in (file_of self.now.object.now) (part (file_of self.now.object.now) self.now.number (sections (file_of self.now.object.now)))) }
     {
-        self.section(self.notes.parts[s as usize]?)
+        self.part().map_or(0, |part| (part.size / 24) as u16)
     }
 
-    // How many relocations section `s` has.
-    fn relocation_count(&self, s: u16) -> u16
-        requires { s < sections (file_of self.now) }
-        ensures { result ≡ length (relocations_in (file_of self.now) (part (file_of self.now) s (sections (file_of self.now)))) }
+    // Whether folding may join it with others.
+    fn setting(&self) -> Setting
+        ensures { result ≡ (if plain self.now.header && unlisted self.now.object.now.notes.listed self.now.number then Foldable else Pinned) }
     {
-        let Some(part) = self.part(s) else {
-            return 0;
-        };
-        (part.size / 24) as u16
-    }
-
-    // Whether folding may join section `s`, with the header `h`, with others.
-    fn setting(&self, s: u16, h: Header) -> Setting
-        requires { s < sections (file_of self.now) }
-        ensures { result ≡ (if plain h && unlisted self.now.notes.listed s then Foldable else Pinned) }
-    {
-        if h.is_plain()
-            && let Some(listed) = &self.notes.listed
-            && !listed[s as usize]
+        if self.header.is_plain()
+            && let Some(listed) = &self.object.notes.listed
+            && !listed[self.number as usize]
         {
             Setting::Foldable
         } else {
@@ -125,64 +167,46 @@ impl Object {
         }
     }
 
-    // What is told of section `s`.
-    fn record_at(&self, s: u16) -> Option<Record>
-        ensures { result ≡ record_of (graph_of self.now) s }
+    // What is told of it.
+    #[tactic(auto, using(crate::proofs::Showing::record_is))]
+    fn record(&self) -> Record
+        ensures { Some result ≡ record_of (graph_of self.now.object.now) self.now.number }
     {
-        let h = self.shown(s)?;
-        let flags = h.flags - (h.flags & 0x200);
-        let alignment = h.alignment.max(1);
-        Some(Record {
-            flags: flags as u32,
-            alignment: alignment as u32,
+        let h = self.header;
+        Record {
+            flags: (h.flags - (h.flags & 0x200)) as u32,
+            alignment: h.alignment.max(1) as u32,
             size: h.size as u16,
-            relocations: self.relocation_count(s),
-            setting: self.setting(s, h),
-        })
+            relocations: self.relocation_count(),
+            setting: self.setting(),
+        }
     }
 
-    // Byte `i` of section `s`.
-    fn byte_at(&self, s: u16, i: u16) -> Option<u8>
-        ensures { result ≡ byte_of (graph_of self.now) s i }
+    // Its byte `i`.
+    #[tactic(auto, using(crate::proofs::Showing::byte_read))]
+    fn byte(&self, i: u16) -> Option<u8>
+        ensures { result ≡ byte_of (graph_of self.now.object.now) self.now.number i }
     {
-        let h = self.shown(s)?;
+        let h = self.header;
         if i as u64 >= h.size {
             return None;
         }
-        if h.kind == 8 {
+        if h.kind == NO_BITS {
             return Some(0);
         }
-        Some(self.file[(h.offset + i as u64) as usize])
+        Some(self.object.file[(h.offset + i as u64) as usize])
     }
 
-    // The relocation of the entry at `q`.
-    fn relocation_from(&self, q: u64) -> Option<Relocation>
-        requires { Ready (file_of self.now) q }
-        ensures { result ≡ Some (relocation_of_entry (symbol (file_of self.now) (entry_at (file_of self.now) q).symbol) (entry_at (file_of self.now) q)) }
+    // Its relocation `j`.
+    #[tactic(auto, using(crate::proofs::Showing::relocation_past, crate::proofs::Showing::relocation_some, crate::proofs::Showing::ready))]
+    fn relocation(&self, j: u16) -> Option<Relocation>
+        ensures { result ≡ relocation_of (graph_of self.now.object.now) self.now.number j }
     {
-        let b = self.file.as_slice();
-        let e = read_entry(b, q).ok()?;
-        let y = read_symbol(b, self.notes.symbols.from + 24 * e.symbol as u64).ok()?;
-        Some(told(y, e))
-    }
-
-    // Relocation `j` of section `s`.
-    fn relocation_at(&self, s: u16, j: u16) -> Option<Relocation>
-        ensures { result ≡ relocation_of (graph_of self.now) s j }
-    {
-        let _shown = self.shown(s)?;
-        let part = self.part(s)?;
+        let part = self.part()?;
         if j as u64 >= part.size / 24 {
             return None;
         }
-        self.relocation_from(part.offset + 24 * j as u64)
-    }
-
-    // The roots, ascending.
-    fn roots(&self) -> &[u16]
-        ensures { result.now ≡ roots (file_of self.now) }
-    {
-        self.notes.roots.as_slice()
+        Some(self.object.relocation_from(part.offset + 24 * j as u64))
     }
 }
 
@@ -213,27 +237,28 @@ impl SectionGraph for Object {
 
     ghost valid = { λ x. lawful (file_of x) x.met };
 
+    #[tactic(auto, using(crate::proofs::Showing::count_read, crate::proofs::Showing::count_told))]
     fn count(&self) -> u16 {
-        self.sections()
+        read(self.file.as_slice(), 60).unwrap_or(0)
     }
 
     fn record_of(&self, s: u16) -> Option<Record> {
-        self.record_at(s)
+        Some(self.shown(s)?.record())
     }
 
     fn byte(&self, s: u16, i: u16) -> Option<u8> {
-        self.byte_at(s, i)
+        self.shown(s)?.byte(i)
     }
 
     fn relocation(&self, s: u16, j: u16) -> Option<Relocation> {
-        self.relocation_at(s, j)
+        self.shown(s)?.relocation(j)
     }
 
     fn root_count(&self) -> u16 {
-        self.roots().len() as u16
+        self.notes.roots.len() as u16
     }
 
     fn root(&self, j: u16) -> Option<u16> {
-        self.roots().get(j as usize).copied()
+        self.notes.roots.get(j as usize).copied()
     }
 }
