@@ -1,5 +1,5 @@
 -- What a reader holds.
-use Rattle.std.proofs.Common.{◌≡◌, ℕ, true, eqb, List, [], length, replicate, None, Option, refl, ap, ◌∙◌}
+use Rattle.std.proofs.Common.{◌≡◌, ℕ, true, eqb, List, [], length, replicate, None, Ok, Err, IfOk, Option, Result, refl, ap, ◌∙◌}
 use Rattle.std.proofs.lemmas.Bool.{or_right}
 use Rattle.std.proofs.lemmas.List.{length-replicate, get_or-replicate}
 use Rattle.std.proofs.lemmas.List.FromFn.{fill_by_all}
@@ -7,6 +7,9 @@ use Rattle.field.specs.Fields.{half}
 use Rattle.checklist.specs.Checks.{first_fault}
 use Rattle.checklist.proofs.Checks.{accepts}
 use Rattle.rules.specs.Notes.{part_note, parts}
+use Rattle.fault.specs.declared.Fault.{Fault}
+use Rattle.rules.specs.declared.Notes.{Notes}
+use Rattle.rules.specs.Ending.{Ends}
 use Rattle.rules.specs.Verdict.{checks, accepted}
 use Rattle.model.specs.Graph.{empty}
 use Rattle.object.specs.Meaning.{meaning}
@@ -14,6 +17,10 @@ use Rattle.object.specs.Held.{held}
 
 pub read_held : (b : List ℕ) → first_fault (checks b) ≡ None → held b ≡ true
 read_held b e = or_right (eqb (length b) 0) (accepted b) (accepts (checks b) e)
+
+pub ended_held : (b : List ℕ) (r : Result Notes Fault) → Ends b (checks b) r → IfOk r (λ x. held b ≡ true)
+ended_held b (Ok x) w = read_held b w.0
+ended_held b (Err f) w = tt
 
 -- of no file
 

@@ -1,6 +1,6 @@
 // The reader of objects: what it holds, what it does, and its answers as a section graph, from the bytes and the notes on
 // them, with no search.
-ghost use Rattle.std.specs.Prelude.{◌≡◌, ◌<◌, true, ◌&&◌, [], if◌then◌else◌, length, Some, None, MatchOption};
+ghost use Rattle.std.specs.Prelude.{◌≡◌, ◌<◌, true, ◌&&◌, [], if◌then◌else◌, length, Some, None, MatchOption, IfOk};
 ghost use Rattle.elf.specs.Layout.{sections, section, plain, entry_at};
 ghost use Rattle.model.specs.declared.Setting.TheVariants.{Foldable, Pinned};
 ghost use Rattle.model.specs.Graph.{empty, section_of, record_of, byte_of, relocation_of};
@@ -8,6 +8,7 @@ ghost use Rattle.checklist.specs.Checks.{answer};
 ghost use Rattle.checklist.specs.Laws.{Verdict};
 ghost use Rattle.rules.specs.Rules.{part, symbol};
 ghost use Rattle.rules.specs.Notes.{parts, Noted};
+ghost use Rattle.rules.specs.Ending.{Ends};
 ghost use Rattle.rules.specs.Verdict.{checks, verdict};
 ghost use Rattle.object.specs.Meaning.{relocation_of_entry, relocations_in};
 ghost use Rattle.object.specs.Held.{held, unlisted, Told, Ready};
@@ -43,6 +44,15 @@ fn no_notes() -> Notes
         listed: None,
         roots: ArrayVec::new(),
     }
+}
+
+// What is noted of a file that meets every rule, or the refusal. Of the vector, so that `read` learns it of the file that it keeps.
+fn notes_of(file: &Vec<u8>) -> Result<Notes, Fault>
+    ensures ends { Ends file.now.items (checks file.now.items) result }
+    ensures met { IfOk result (λ x. held file.now.items ≡ true) }
+    ensures first { Verdict (checks file.now.items) }
+{
+    examine(file.as_slice())
 }
 
 // A reader of ELF64 objects. It holds the file that it read last, and at first none.
@@ -85,7 +95,7 @@ impl Object {
         ensures first { Verdict (checks file.items) }
         ensures holds { file_of self.new ≡ after (verdict file.items) file.items (file_of self.old) }
     {
-        let notes = examine(file.as_slice())?;
+        let notes = notes_of(&file)?;
         self.file = file;
         self.notes = notes;
         Ok(())
