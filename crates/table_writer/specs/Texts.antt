@@ -1,5 +1,5 @@
 -- The parts of a table's text, and how long they are.
-use Rattle.std.specs.Prelude.{ℕ, ◌+◌, ◌*◌, List, [], length, take, drop, Some, None, Option}
+use Rattle.std.specs.Prelude.{ℕ, ◌*◌, List, [], length, take, drop, Some, None, Option}
 use Rattle.std.specs.List.{flat_map}
 use Rattle.model.specs.declared.Record.{Record}
 use Rattle.model.specs.declared.Relocation.{Relocation}

@@ -2,18 +2,19 @@
 
 #![tactic(auto)]
 
-ghost use Rattle.std.specs.Prelude.{◌≡◌, ℕ, ◌+◌, ◌*◌, ◌<◌, ◌≤◌, List, length};
+ghost use Rattle.std.specs.Prelude.{◌≡◌, ℕ, ◌+◌, ◌*◌, ◌<◌, ◌≤◌, List, length, Some};
 ghost use Rattle.std.specs.Borrow.{MutBor};
-ghost use Rattle.model.specs.Graph.{section_of, relocation_of, root_of, root_count_of};
+ghost use Rattle.model.specs.Graph.{section_of, record_of, relocation_of, root_of, root_count_of};
 ghost use Rattle.row_writer.specs.Writing.{wrote, put};
 ghost use Rattle.layout.specs.Layout.{text_of, present_count};
-ghost use Rattle.graph.specs.Bytes.{bytes_in, relocations_in};
+ghost use Rattle.graph.specs.Bytes.{bytes_of, relocations_in};
 ghost use Rattle.table_writer.specs.Texts.{bytes_text, relocations_text, section_text, sections_text, roots_text, byte_row, relocation_row, root_row};
 ghost use Rattle.table_writer.specs.Writes.{Writes, pieces, EachWrites};
 
 use fault::{Fault, Kind, Layer};
 use graph::SectionGraph;
 use layout::{END_ROW, HEADER_ROW, ROOT_ROW, relocation_place};
+use model::Record;
 use row_writer::{
     write_bytes, write_end, write_header, write_relocation, write_root, write_section,
 };
@@ -65,82 +66,84 @@ fn write_each<F: Fn(u16, &mut [u8]) -> Result<usize, Fault>>(
     Ok(at)
 }
 
-// `graph`, a number and `out` are parameters of each writer below, and no struct: each takes another part of the buffer.
-
-// Writes the row of the sixteen bytes of section `s` from `16 * k` on, or of those that are left. There are `size`.
-fn write_byte_row<G: SectionGraph>(
-    graph: &G,
-    s: u16,
-    size: u16,
-    k: u16,
-    out: &mut [u8],
-) -> Result<usize, Fault>
-    requires size { size ≡ length (bytes_in (section_of (G.SectionGraph.graph graph.now) s)) }
-    requires inside { 16 * k < size }
-    ensures { Writes (byte_row (bytes_in (section_of (G.SectionGraph.graph graph.now) s)) k) out.old out.new result }
-{
-    let start = 16 * k;
-    let row: [u8; 16] = array::from_fn(|i| graph.byte(s, start + i as u16).unwrap_or(0));
-    let count = (size - start).min(16);
-    write_bytes(&row[..usize::from(count)], out)
+// A present section whose rows are written, and what is told of it.
+#[derive(Drop)]
+struct Section<'a, G: SectionGraph> {
+    graph: &'a G,
+    number: u16,
+    info: Record,
+    ghost is_told: { record_of (G.SectionGraph.graph graph.now) number ≡ Some info },
 }
 
-// Writes the rows of the bytes of section `s`, of which there are `size`.
-fn write_byte_rows<G: SectionGraph>(
-    graph: &G,
-    s: u16,
-    size: u16,
-    out: &mut [u8],
-) -> Result<usize, Fault>
-    requires { size ≡ length (bytes_in (section_of (G.SectionGraph.graph graph.now) s)) }
-    ensures { Writes (bytes_text (bytes_in (section_of (G.SectionGraph.graph graph.now) s))) out.old out.new result }
-{
-    write_each(size.div_ceil(16), out, |k: u16, part: &mut [u8]| {
-        write_byte_row(graph, s, size, k, part)
-    })
-}
+impl<'a, G: SectionGraph> Section<'a, G> {
+    // Writes the row of the sixteen bytes from `16 * k` on, or of those that are left.
+    fn write_byte_row(&self, k: u16, out: &mut [u8]) -> Result<usize, Fault>
+        requires { 16 * k < self.now.info.size }
+        ensures { Writes (byte_row (bytes_of (G.SectionGraph.graph self.now.graph.now) self.now.number) k) out.old out.new result }
+    {
+        let start = 16 * k;
+        let row: [u8; 16] = array::from_fn(|i| self
+            .graph
+            .byte(self.number, start + i as u16)
+            .unwrap_or(0));
+        let count = (self.info.size - start).min(16);
+        write_bytes(&row[..usize::from(count)], out)
+    }
 
-// Writes the row of relocation `j` of section `s`.
-fn write_relocation_row<G: SectionGraph>(
-    graph: &G,
-    s: u16,
-    j: u16,
-    out: &mut [u8],
-) -> Result<usize, Fault>
-    ensures { Writes (relocation_row (relocation_of (G.SectionGraph.graph graph.now) s j)) out.old out.new result }
-{
-    let Some(relocation) = graph.relocation(s, j) else {
-        return Ok(0);
-    };
-    write_relocation(&relocation, out)
-}
+    // Writes the rows of the bytes.
+    fn write_byte_rows(&self, out: &mut [u8]) -> Result<usize, Fault>
+        ensures { Writes (bytes_text (bytes_of (G.SectionGraph.graph self.now.graph.now) self.now.number)) out.old out.new result }
+    {
+        write_each(
+            self.info.size.div_ceil(16),
+            out,
+            |k: u16, part: &mut [u8]| { self.write_byte_row(k, part) },
+        )
+    }
 
-// Writes the rows of the relocations of section `s`, of which there are `count`.
-fn write_relocation_rows<G: SectionGraph>(
-    graph: &G,
-    s: u16,
-    count: u16,
-    out: &mut [u8],
-) -> Result<usize, Fault>
-    requires { count ≡ length (relocations_in (section_of (G.SectionGraph.graph graph.now) s)) }
-    ensures { Writes (relocations_text (relocations_in (section_of (G.SectionGraph.graph graph.now) s))) out.old out.new result }
-{
-    write_each(count, out, |j: u16, part: &mut [u8]| {
-        write_relocation_row(graph, s, j, part)
-    })
+    // Writes the row of relocation `j`. It and `write_root_row` are two: each has its own question and its own writer.
+    fn write_relocation_row(&self, j: u16, out: &mut [u8]) -> Result<usize, Fault>
+        ensures { Writes (relocation_row (relocation_of (G.SectionGraph.graph self.now.graph.now) self.now.number j)) out.old out.new result }
+    {
+        let Some(relocation) = self.graph.relocation(self.number, j) else {
+            return Ok(0);
+        };
+        write_relocation(&relocation, out)
+    }
+
+    // Writes the rows of the relocations.
+    fn write_relocation_rows(&self, out: &mut [u8]) -> Result<usize, Fault>
+        ensures { Writes (relocations_text (relocations_in (section_of (G.SectionGraph.graph self.now.graph.now) self.now.number))) out.old out.new result }
+    {
+        write_each(self.info.relocations, out, |j: u16, part: &mut [u8]| {
+            self.write_relocation_row(j, part)
+        })
+    }
+
+    // Writes all its rows.
+    fn write(&self, out: &mut [u8]) -> Result<usize, Fault>
+        ensures { Writes (section_text self.now.number (section_of (G.SectionGraph.graph self.now.graph.now) self.now.number)) out.old out.new result }
+    {
+        let mut at = write_section(self.number, &self.info, out)?;
+        at += self.write_byte_rows(&mut out[at..])?;
+        at += self.write_relocation_rows(&mut out[at..])?;
+        Ok(at)
+    }
 }
 
 // Writes the rows of section `s`, if it is present.
 fn write_section_rows<G: SectionGraph>(graph: &G, s: u16, out: &mut [u8]) -> Result<usize, Fault>
     ensures { Writes (section_text s (section_of (G.SectionGraph.graph graph.now) s)) out.old out.new result }
 {
-    let Some(told) = graph.record_of(s) else {
+    let Some(info) = graph.record_of(s) else {
         return Ok(0);
     };
-    let mut at = write_section(s, &told, out)?;
-    at += write_byte_rows(graph, s, told.size, &mut out[at..])?;
-    at += write_relocation_rows(graph, s, told.relocations, &mut out[at..])?;
-    Ok(at)
+    Section {
+        graph,
+        number: s,
+        info,
+    }
+    .write(out)
 }
 
 // Writes the rows of the present sections.

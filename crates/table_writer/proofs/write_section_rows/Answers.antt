@@ -1,91 +1,10 @@
-use Rattle.std.proofs.Common.{◌+◌, ◌≤◌, ◌++◌, length, sym, ◌∙◌, append_assoc, rules}
-use Rattle.std.proofs.lemmas.Result.{err_from_is_err_and}
+use Rattle.std.proofs.Common.{sym, ◌∙◌}
 use Rattle.model.specs.Graph.{section_of}
-use Rattle.row.specs.Entry.{render, section}
-use Rattle.graph.specs.Bytes.{bytes_in, relocations_in}
-use Rattle.table_writer.specs.Texts.{bytes_text, relocations_text}
-use Rattle.table_writer.proofs.Writing.{none_written, row_ok, row_err, restated, both_ok, both_err, both_end, first_ends, stopped_before}
-use Rattle.table_writer.proofs.Texts.{section_none, section_told}
+use Rattle.table_writer.proofs.Writing.{none_written, restated}
+use Rattle.table_writer.proofs.Texts.{section_none}
 use Rattle.table_writer.proofs.write_section_rows.Goals as goal
 
 pub returns-in_default : goal.returns-in_default
 returns-in_default g c =
     let o = section_of (g.G.SectionGraph.graph c.args.graph.now) c.args.s in
     restated (sym (section_none c.args.s o (sym c.record_of.ensures ∙ c.in_default.is))) (none_written c.args.out.now)
-
-pub returns-in_err-at : goal.returns-in_err-at
-returns-in_err-at g c =
-    let o = section_of (g.G.SectionGraph.graph c.args.graph.now) c.args.s in
-    let parts = section_told c.args.s o c.in-Some.told (sym c.record_of.ensures ∙ c.in-Some.is) in
-    let p = err_from_is_err_and c.from_residual.result c.from_residual.ensures.1 in
-    rw (p.1, p.2)
-    (stopped_before (render (section c.args.s c.in-Some.told)) (bytes_text (bytes_in o) ++ relocations_text (relocations_in o))
-    (sym (append_assoc (render (section c.args.s c.in-Some.told)) (bytes_text (bytes_in o)) (relocations_text (relocations_in o))) ∙ parts.0)
-    (row_err c.write_section.ensures.answer c.write_section.ensures.text c.in_err-at.was))
-
-pub slice_bounds-write_byte_rows-count : goal.slice_bounds-write_byte_rows-count
-slice_bounds-write_byte_rows-count g c = first_ends (row_ok c.write_section.ensures.answer c.write_section.ensures.text c.in_ok-at.was)
-
-pub slice_bounds-write_byte_rows-start : goal.slice_bounds-write_byte_rows-start
-slice_bounds-write_byte_rows-start g c =
-    let h : c.in_ok-at.at ≤ length c.write_section.new.out = first_ends (row_ok c.write_section.ensures.answer c.write_section.ensures.text c.in_ok-at.was) in
-    search rules
-
-pub write_byte_rows-requires : goal.write_byte_rows-requires
-write_byte_rows-requires g c =
-    let o = section_of (g.G.SectionGraph.graph c.args.graph.now) c.args.s in
-    (section_told c.args.s o c.in-Some.told (sym c.record_of.ensures ∙ c.in-Some.is)).1
-
-pub returns-in_err-at-2 : goal.returns-in_err-at-2
-returns-in_err-at-2 g c =
-    let o = section_of (g.G.SectionGraph.graph c.args.graph.now) c.args.s in
-    let parts = section_told c.args.s o c.in-Some.told (sym c.record_of.ensures ∙ c.in-Some.is) in
-    let one = row_ok c.write_section.ensures.answer c.write_section.ensures.text c.in_ok-at.was in
-    let p = err_from_is_err_and c.from_residual-in_err-at-2.result c.from_residual-in_err-at-2.ensures.1 in
-    rw (p.1, p.2) (stopped_before (render (section c.args.s c.in-Some.told) ++ bytes_text (bytes_in o)) (relocations_text (relocations_in o)) parts.0 (both_err one c.write_byte_rows.ensures c.in_err-at-2.was))
-
-pub overflow_add-at : goal.overflow_add-at
-overflow_add-at g c =
-    let one = row_ok c.write_section.ensures.answer c.write_section.ensures.text c.in_ok-at.was in
-    let h : c.in_ok-at.at + c.in_ok-at-2.field-0 ≤ length c.write_section.new.out = both_end one c.write_byte_rows.ensures c.in_ok-at-2.was in
-    search rules
-
-pub slice_bounds-write_relocation_rows-count : goal.slice_bounds-write_relocation_rows-count
-slice_bounds-write_relocation_rows-count g c =
-    let one = row_ok c.write_section.ensures.answer c.write_section.ensures.text c.in_ok-at.was in
-    first_ends (both_ok one c.write_byte_rows.ensures c.in_ok-at-2.was)
-
-pub slice_bounds-write_relocation_rows-start : goal.slice_bounds-write_relocation_rows-start
-slice_bounds-write_relocation_rows-start g c =
-    let one = row_ok c.write_section.ensures.answer c.write_section.ensures.text c.in_ok-at.was in
-    let h = first_ends (both_ok one c.write_byte_rows.ensures c.in_ok-at-2.was) in
-    search rules
-
-pub write_relocation_rows-requires : goal.write_relocation_rows-requires
-write_relocation_rows-requires g c =
-    let o = section_of (g.G.SectionGraph.graph c.args.graph.now) c.args.s in
-    (section_told c.args.s o c.in-Some.told (sym c.record_of.ensures ∙ c.in-Some.is)).2
-
-pub returns-in_err-at-3 : goal.returns-in_err-at-3
-returns-in_err-at-3 g c =
-    let o = section_of (g.G.SectionGraph.graph c.args.graph.now) c.args.s in
-    let parts = section_told c.args.s o c.in-Some.told (sym c.record_of.ensures ∙ c.in-Some.is) in
-    let one = row_ok c.write_section.ensures.answer c.write_section.ensures.text c.in_ok-at.was in
-    let two = both_ok one c.write_byte_rows.ensures c.in_ok-at-2.was in
-    let p = err_from_is_err_and c.from_residual-in_err-at-3.result c.from_residual-in_err-at-3.ensures.1 in
-    rw (p.1, p.2) (restated parts.0 (both_err two c.write_relocation_rows.ensures c.in_err-at-3.was))
-
-pub overflow_add-at-2 : goal.overflow_add-at-2
-overflow_add-at-2 g c =
-    let one = row_ok c.write_section.ensures.answer c.write_section.ensures.text c.in_ok-at.was in
-    let two = both_ok one c.write_byte_rows.ensures c.in_ok-at-2.was in
-    let h = both_end two c.write_relocation_rows.ensures c.in_ok-at-3.was in
-    search rules
-
-pub returns : goal.returns
-returns g c =
-    let o = section_of (g.G.SectionGraph.graph c.args.graph.now) c.args.s in
-    let parts = section_told c.args.s o c.in-Some.told (sym c.record_of.ensures ∙ c.in-Some.is) in
-    let one = row_ok c.write_section.ensures.answer c.write_section.ensures.text c.in_ok-at.was in
-    let two = both_ok one c.write_byte_rows.ensures c.in_ok-at-2.was in
-    restated parts.0 (both_ok two c.write_relocation_rows.ensures c.in_ok-at-3.was)
