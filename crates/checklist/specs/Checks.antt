@@ -1,6 +1,8 @@
 -- Rules as lists of checks in order: the first that does not hold gives the refusal.
-use Rattle.std.specs.Prelude.{ℕ, zero, suc, Bool, true, false, cond, ◌&&◌, List, [], ◌∷◌, ◌++◌, Some, None, Ok, Err, Option, Result}
+use Rattle.std.specs.Prelude.{ℕ, zero, suc, Bool, true, false, cond, ◌&&◌, List, [], ◌∷◌, ◌++◌, Some, None, Option}
 use Rattle.fault.specs.declared.Fault.{Fault}
+-- the answer of a reader: what it found, or the refusal
+pub use Rattle.fault.specs.Refusal.{ok_unless as answer}
 
 -- a condition, and the refusal where it does not hold
 pub record Check : Type 0 where
@@ -25,8 +27,3 @@ each f (suc n) = each f n ++ f n
 abbrev pub where_holds : Bool → List Check → List Check
 where_holds true cs = cs
 where_holds false cs = []
-
--- the answer of a reader: what it found, or the refusal
-abbrev pub answer : {A : Type 0} → Option Fault → A → Result A Fault
-answer None x = Ok x
-answer (Some f) x = Err f
