@@ -17,7 +17,7 @@ ghost use Rattle.rules.specs.Verdict.{checks};
 ghost use Rattle.rules.specs.Rules.{pass_rule, extent_rule, only_rule, the_only, table as table_in, part_checks, told_part, relocation_rule, symbol_rule, table_rule, symbols as symbols_in, table_rule_of, symbols_of};
 
 use arrayvec::ArrayVec;
-use elf::{kind, read_symbol};
+use elf::kind;
 use fault::{Fault, Kind};
 use field::{Number, gather, misshapen, none_yet};
 use rules::{
@@ -47,6 +47,7 @@ fn every_section<F: Fn(Placed) -> Result<(), Fault>>(headers: Headers, rule: F) 
     requires { F.IsAlwaysCallable rule }
     ensures { (cs : ℕ → Header → List Check) → AnswersBy (F.post rule) cs → result ≡ answer (first_fault (each (pass_rule cs headers.entry.bytes.now) (sections headers.entry.bytes.now))) tt }
 {
+    // not `try_for_each`: tried, and its closure needs two clauses of its own, of the number and of the rule
     for i in 0..headers.count {
         rule(headers.placed(i))?;
     }
@@ -70,9 +71,7 @@ fn every_symbol(headers: Headers, from: u64, count: u32) -> Result<(), Fault>
     ensures { result ≡ answer (first_fault (each (symbol_rule headers.entry.bytes.now from) count)) tt }
 {
     for j in 0..count {
-        let q = from + 24 * j as u64;
-        let s = read_symbol(headers.bytes, q)?;
-        headers.symbol_rule(q, s)?;
+        headers.symbol_at(from + 24 * j as u64)?;
     }
     Ok(())
 }
@@ -234,6 +233,7 @@ fn significance(
 fn roots(headers: Headers) -> ArrayVec<u16, 1024>
     ensures { result.items ≡ roots headers.entry.bytes.now }
 {
+    // not `collect`: it asks for an allocator, and below the programs there is none
     let mut found = ArrayVec::new();
     for i in 0..headers.count {
         if headers.section(i).is_root() {

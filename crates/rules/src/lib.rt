@@ -5,7 +5,7 @@
 
 ghost use Rattle.std.specs.Prelude.{◌≡◌, ◌+◌, ◌*◌, ◌/◌, ◌<◌, ◌≤◌, length, is_some, Some, None, Ok, MatchResult, ◌==◌, nat_le, slice_index_or};
 ghost use Rattle.checklist.specs.Checks.{first_fault, answer};
-ghost use Rattle.elf.specs.Layout.{sections, place, section, entry_at};
+ghost use Rattle.elf.specs.Layout.{sections, place, section, symbol_at, entry_at};
 ghost use Rattle.rules.specs.Known.{Headed, Tabled};
 ghost use Rattle.rules.specs.Listing.{number_checks, marked};
 ghost use Rattle.rules.specs.Rules.{fault_at, cut_at, identified as identified_by, head_rule, extent_checks, content_checks, only_checks, earlier, is_number, fit_checks, symbol, symbols as symbols_in, reached, entry_checks, relocating as relocating_header, table_checks, symbol_checks};
@@ -75,7 +75,7 @@ pub struct Tables<'a> {
     ghost same: { symbols.bytes.now ≡ headers.bytes.now },
 }
 
-// A refusal of the format; without it each refusal here would name the layer once more.
+// A refusal of the format; `Fault::new` at each call would be no plainer, since each would name the layer as well.
 pub fn refusal(kind: Kind, place: u64) -> Fault
     ensures { result ≡ fault_at kind place }
 {
@@ -184,6 +184,15 @@ impl<'a> Headers<'a> {
             return Err(refusal(Kind::Misshapen, q + 8));
         }
         Ok(())
+    }
+
+    // The symbol at `q`.
+    pub fn symbol_at(self, q: u64) -> Result<(), Fault>
+        requires { q + 24 ≤ length self.bytes.now }
+        ensures { result ≡ answer (first_fault (symbol_checks self.entry.bytes.now q (symbol_at self.entry.bytes.now q))) tt }
+    {
+        let s = read_symbol(self.bytes, q)?;
+        self.symbol_rule(q, s)
     }
 
     // Whether a relocation may name the symbol.
