@@ -1,12 +1,12 @@
 -- What each call does to a sound pile.
-use Rattle.std.specs.Prelude.{◌≡◌, ℕ, ◌+◌, ◌<◌, ◌≤◌, Bool, List, length, take, is_some, Some, None, Ok, Err, Option, Result, slice_index_or, refl}
+use Rattle.std.specs.Prelude.{◌≡◌, ℕ, ◌<◌, ◌≤◌, Bool, List, length, take, Some, None, Ok, Err, Option, Result, refl}
 use Rattle.std.proofs.Common.{sym, ap, subst, ◌∙◌}
 use Rattle.std.proofs.Math.Logic.{∥∥₁_elim, ∥∥₁_prop}
-use Rattle.std.proofs.lemmas.List.{take_all, take_more}
+use Rattle.std.proofs.lemmas.List.{take_all}
 use Rattle.arrayvec.specs.ArrayVec.{array_vec_len}
 use Rattle.fault.specs.declared.Fault.{Fault}
 use Rattle.fault.specs.Refusal.{ok_unless}
-use Rattle.model.specs.Graph.{Body, Graph, count_of, told_record, root_count_of}
+use Rattle.model.specs.Graph.{Graph, count_of, root_count_of}
 use Rattle.model.specs.Laws.{Valid}
 use Rattle.steps.specs.Below.{table}
 use Rattle.unfolding.specs.Groups.{present}
@@ -22,14 +22,8 @@ use Rattle.ledger.specs.declared.Ledger.{Ledger}
 use Rattle.ledger.specs.Edits.{fresh, Bounds, with_bind, with_pin, with_root, Shut}
 use Rattle.ledger.specs.Told.{told, Reachable, Kept}
 use Rattle.ledger.proofs.OneProof.{State-set, Valid-prop}
-use Rattle.ledger.proofs.Telling.{told_fresh, fresh_reachable, after_step, told_tells, told_kept, step_reachable, step_kept, bind_refusal, pin_refusal, root_refusal, bind_room, pin_there, root_room, small, told_bind, told_pin, told_root, bind_bounds, pin_bounds, root_bounds, shut_bounds, there, marks, class, few, told_sweep, sweep_answer, told_fold, fold_answer}
+use Rattle.ledger.proofs.Telling.{told_fresh, fresh_reachable, told_tells, told_kept, step_reachable, step_kept, bind_refusal, pin_refusal, root_refusal, bind_room, pin_there, root_room, small, told_bind, told_pin, told_root, bind_bounds, pin_bounds, root_bounds, shut_bounds, there, marks, class, few, told_sweep, sweep_answer, told_fold, fold_answer}
 use Rattle.pile.specs.Does.{Sound, Does, Checked}
-
--- a section is present where a record is told
-
-pub some_record : (o : Option Body) → is_some (told_record o) ≡ is_some o
-some_record None = refl
-some_record (Some b) = refl
 
 -- the laws hold of the pile's graph
 pub pile_valid : (g : Graph) → Valid g → (t : Ledger) → Sound g t → Valid (told g t).graph
@@ -186,17 +180,6 @@ module _ (g : Graph) (v : Valid g) (t : Ledger) (sound : Sound g t) where
       (λ r. told_fold g v t t' a b r three)
       (fold_answer g v t t' a b k ek three)
 
--- a list of calls on a new pile, one more
-
-pub run_more :
-    (g : Graph) (t t' : Ledger) (calls : List Call) (i : ℕ) (a : Answer) →
-    i < length calls →
-    told g t ≡ after g (take i calls) →
-    Does g t t' (slice_index_or calls i (Bind 0 0)) a →
-    told g t' ≡ after g (take (i + 1) calls)
-run_more g t t' calls i a lt led d =
-    d.state ∙
-    (sym (after_step g t (take i calls) led (slice_index_or calls i (Bind 0 0))) ∙ ap (after g) (sym (take_more calls i (Bind 0 0) lt)))
-
+-- a list of calls on a new pile, all done
 pub run_all : (g : Graph) → Valid g → (t : Ledger) (calls : List Call) (i : ℕ) → length calls ≤ i → told g t ≡ after g (take i calls) → Kept g calls (told g t)
 run_all g v t calls i h led = told_kept g v t calls (led ∙ ap (after g) (take_all i calls h))

@@ -54,7 +54,7 @@ fn row_length(fault: &Fault) -> usize
 // definition for it, which is longer than the line that each would save.
 
 // The row of a refusal.
-#[tactic(auto, using(row_writer::proofs::Puts::wrote_fits))]
+#[tactic(auto, using(row_writer::proofs::Puts::wrote_fits, crate::proofs::Filling::filled))]
 fn fault_text(heap: Global, fault: &Fault) -> Result<Vec<u8>, AllocError>
     ensures { IfOk result (λ v. v.items ≡ fault_row fault.now) }
 {
@@ -64,7 +64,7 @@ fn fault_text(heap: Global, fault: &Fault) -> Result<Vec<u8>, AllocError>
 }
 
 // The table of a section graph.
-#[tactic(auto, using(row_writer::proofs::Puts::wrote_fits))]
+#[tactic(auto, using(row_writer::proofs::Puts::wrote_fits, crate::proofs::Filling::filled))]
 fn table_text<G: SectionGraph>(heap: Global, graph: &G) -> Result<Vec<u8>, AllocError>
     ensures { IfOk result (λ v. v.items ≡ text_of (G.SectionGraph.graph graph.now)) }
 {
