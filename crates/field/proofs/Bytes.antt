@@ -1,8 +1,6 @@
 -- A number made of the first bytes of a list is the field that stands there.
-use Rattle.std.proofs.Common.{◌≡◌, ℕ, ◌<◌, cond, nat_le, List, length, take, get_or, Some, None, arith}
+use Rattle.std.proofs.Common.{◌≡◌, ℕ, ◌<◌, List, take, get_or, arith}
 use Rattle.std.specs.Int.{from_le_bytes, w16, w32, w64}
-use Rattle.std.specs.Array.{IsFirstChunk}
-use Rattle.std.proofs.lemmas.Bool.{le-leb}
 use Rattle.std.proofs.lemmas.List.{get_or-take}
 use Rattle.field.specs.Fields.{half, word, long}
 
@@ -23,8 +21,3 @@ pub long_first : (bs : List ℕ) → from_le_bytes w64 (take 8 bs) ≡ long bs 0
 unfolding half word long
 long_first bs =
     omega (arith, byte 8 bs 0 (omega arith), byte 8 bs 1 (omega arith), byte 8 bs 2 (omega arith), byte 8 bs 3 (omega arith), byte 8 bs 4 (omega arith), byte 8 bs 5 (omega arith), byte 8 bs 6 (omega arith), byte 8 bs 7 (omega arith))
-
--- the number that some bytes begin with, where there are enough of them
-pub first_is : {A : Type 0} (n : ℕ) (bs xs : List ℕ) (make : List ℕ → A) (y : A) → IsFirstChunk bs xs n → make (take n bs) ≡ y
-    → Some (make xs) ≡ cond (nat_le n (length bs)) (Some y) None
-first_is n bs xs make y k e = rw (le-leb n (length bs) k.enough, k.same, e)

@@ -34,6 +34,7 @@ impl Field for u16 {
 
     ghost onward = { half-drop };
 
+    #[tactic(auto, using(crate::proofs::Bytes::half_first))]
     fn first(bytes: &[u8]) -> Option<u16> {
         Some(u16::from_le_bytes(*bytes.first_chunk()?))
     }
@@ -46,6 +47,7 @@ impl Field for u32 {
 
     ghost onward = { word-drop };
 
+    #[tactic(auto, using(crate::proofs::Bytes::word_first))]
     fn first(bytes: &[u8]) -> Option<u32> {
         Some(u32::from_le_bytes(*bytes.first_chunk()?))
     }
@@ -58,6 +60,7 @@ impl Field for u64 {
 
     ghost onward = { long-drop };
 
+    #[tactic(auto, using(crate::proofs::Bytes::long_first))]
     fn first(bytes: &[u8]) -> Option<u64> {
         Some(u64::from_le_bytes(*bytes.first_chunk()?))
     }
@@ -98,7 +101,7 @@ pub fn misshapen(first: u64) -> Fault
     Fault::new(Kind::Misshapen, first, Layer::Field)
 }
 
-// A number of which no byte is read.
+// A number of which no byte is read: `Number::default()`, under a name that says what it is for.
 pub fn none_yet() -> Number
     ensures { result ≡ none_yet }
 {
@@ -106,6 +109,7 @@ pub fn none_yet() -> Number
 }
 
 // What the digit `d` of a ULEB128 number counts, with `before` digits before it.
+#[tactic(auto, using(crate::proofs::Digits::shifted))]
 fn digit(d: u8, before: u8) -> u32
     requires few { before ≤ 4 }
     requires small { d < 128 }
@@ -134,7 +138,8 @@ pub fn gather(n: Number, x: u8, first: u64) -> Result<ControlFlow<Number, Number
     }
 }
 
-// The ULEB128 number that `bytes` begin with; their first has the place `first`.
+// The ULEB128 number that `bytes` begin with; their first has the place `first`. A loop: each byte may end it, refuse it or go on, and
+// the closure of a `try_fold` would need the same three arms and the fold two more.
 pub fn uleb(bytes: &[u8], first: u64) -> Result<Number, Fault>
     ensures { result ≡ number_at bytes.now first }
 {
