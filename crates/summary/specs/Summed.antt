@@ -1,16 +1,12 @@
 -- What a section graph holds, in numbers.
-use Rattle.std.specs.Prelude.{ℕ, zero, suc, ◌+◌, Some, None, Option}
+use Rattle.std.specs.Prelude.{ℕ, List, map, Some, None, Option}
+use Rattle.std.specs.List.{range_with_len, sum_by}
 use Rattle.model.specs.declared.Setting.{Setting}
 use Rattle.model.specs.declared.Setting.TheVariants.{Foldable, Pinned}
 use Rattle.model.specs.declared.Record.{Record}
 use Rattle.model.specs.Graph.{Graph, count_of, record_of, root_count_of}
 use Rattle.graph.specs.Bytes.{told_size, told_count}
 use Rattle.summary.specs.declared.Summary.{Summary}
-
--- the sum of f over the numbers below n
-abbrev pub sum_below : (ℕ → ℕ) → ℕ → ℕ
-sum_below f zero = 0
-sum_below f (suc n) = sum_below f n + f n
 
 -- what a section counts for, by its record: an absent one for nothing
 
@@ -26,15 +22,19 @@ abbrev pub one_pinned : Option Record → ℕ
 one_pinned None = 0
 one_pinned (Some r) = one_if_pinned r.setting
 
--- the sections with a number below n
+-- the records of the sections with a number below n
+abbrev pub records_below : Graph → ℕ → List (Option Record)
+records_below g n = map (record_of g) (range_with_len 0 n)
+
+-- these sections
 abbrev pub summed : Graph → ℕ → Summary
 summed g n =
     record {
       sections = n;
-      present = sum_below (λ s. one_present (record_of g s)) n;
-      pinned = sum_below (λ s. one_pinned (record_of g s)) n;
-      bytes = sum_below (λ s. told_size (record_of g s)) n;
-      relocations = sum_below (λ s. told_count (record_of g s)) n;
+      present = sum_by one_present (records_below g n);
+      pinned = sum_by one_pinned (records_below g n);
+      bytes = sum_by told_size (records_below g n);
+      relocations = sum_by told_count (records_below g n);
       roots = root_count_of g;
     }
 
