@@ -6,6 +6,7 @@ ghost use Rattle.checklist.specs.Laws.{Verdicts};
 
 // For every list of checks: nothing is refused exactly where all hold, and a refusal is that of the first check that
 // does not hold.
+#[tactic(auto, using(crate::proofs::Checks::verdict))]
 pub fn verdicts()
     ensures { Verdicts }
 {}

@@ -16,6 +16,7 @@ pub fn fold_valid()
 {}
 
 // The test by rounds finds what a chain of relocations from a root reaches.
+#[tactic(auto, using(crate::proofs::Theorems::reach_decided))]
 pub fn reach_decided()
     ensures { ReachDecided }
 {}
@@ -41,11 +42,13 @@ pub fn sweep_keeps_apart()
 {}
 
 // A second fold, or a second sweep, changes nothing.
+#[tactic(auto, using(crate::proofs::Theorems::settled))]
 pub fn settled()
     ensures { Settled }
 {}
 
 // After a fold and a sweep, in either order, neither changes anything.
+#[tactic(auto, using(crate::proofs::Theorems::both_finish))]
 pub fn both_finish()
     ensures { BothFinish }
 {}

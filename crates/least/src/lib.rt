@@ -6,6 +6,7 @@
 ghost use Rattle.least.specs.Theorems.{Least, FinishLeast, OrdersAgree};
 
 // Where everything is reached and no two sections are alike, no graph with alike roots has fewer sections.
+#[tactic(auto, using(crate::proofs::Theorems::is_least))]
 pub fn is_least()
     ensures { Least }
 {}
@@ -16,6 +17,7 @@ pub fn finish_least()
 {}
 
 // The two orders leave as many sections.
+#[tactic(auto, using(crate::proofs::Theorems::orders_agree))]
 pub fn orders_agree()
     ensures { OrdersAgree }
 {}

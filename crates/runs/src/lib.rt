@@ -16,11 +16,13 @@ pub fn promise_stands()
 {}
 
 // What a bind, a pin and a root do to a section graph.
+#[tactic(auto, using(crate::proofs::Draws::draws))]
 pub fn calls_draw()
     ensures { Draws }
 {}
 
 // The drawn graph can be told at once from where targets go, which sections are pinned and which roots were added.
+#[tactic(auto, using(crate::proofs::Noted::notes))]
 pub fn calls_noted()
     ensures { Notes }
 {}
@@ -31,6 +33,7 @@ pub fn refusals_come()
 {}
 
 // The drawn graph, the bound names, the added roots and whether the pile is closed follow from the calls that were not refused.
+#[tactic(auto, using(crate::proofs::Refusing::run_follows))]
 pub fn run_follows()
     ensures { RunFollows }
 {}
@@ -41,6 +44,7 @@ pub fn pile_tells()
 {}
 
 // The pile's graph is the drawn graph seen through the slots.
+#[tactic(auto, using(crate::proofs::Seen::pile_seen))]
 pub fn pile_seen()
     ensures { PileSeen }
 {}
@@ -51,6 +55,7 @@ pub fn closes_right()
 {}
 
 // The definitions give what each worked example says.
+#[tactic(auto, using(crate::proofs::Examples::examples_hold))]
 pub fn examples_hold()
     ensures { ExamplesHold }
 {}

@@ -7,14 +7,11 @@ use Rattle.model.specs.Graph.{Graph, section_of, Present}
 use Rattle.unfolding.specs.Telling.{setting_of, look}
 use Rattle.unfolding.specs.Groups.{may_fold, foldable}
 use Rattle.unfolding.specs.Sections.{Mark, mark_of, rules}
-use Rattle.unfolding.specs.Theorems.{PresenceDecided, MarksTell, Narrows, GroupsLast, GroupsSettle, DepthDecides, RoundsAreLeast, LowestRepresents}
+use Rattle.unfolding.specs.Theorems.{MarksTell, Narrows, GroupsLast, GroupsSettle, DepthDecides, RoundsAreLeast, LowestRepresents}
 use Rattle.unfolding.proofs.Depths.{narrows}
 use Rattle.unfolding.proofs.Marks.{Kinds, both_absent, both_foldable, one_pinned, kinds_present, agree_kinds, stays_stable, decided}
 use Rattle.unfolding.proofs.Classes.{some_stable, rounds_least, rounds_bounded, rounds_stable, rep_alike, rep_foldable, rep_lowest, rep_itself, rep_same, rep_shares}
 use Rattle.unfolding.proofs.Rules.{lawful_rules}
-
-pub presence_decided : PresenceDecided
-presence_decided g s = (λ e. e, λ e. e)
 
 pub depths_narrow : Narrows
 depths_narrow k g s h t e = narrows (look rules g) (look rules h) k s t e

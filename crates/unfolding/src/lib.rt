@@ -13,6 +13,7 @@ pub fn presence_decided()
 {}
 
 // Depth 0 tells a pinned section from every other, and no two foldable ones apart.
+#[tactic(auto, using(crate::proofs::Theorems::marks_tell))]
 pub fn marks_tell()
     ensures { MarksTell }
 {}
@@ -28,11 +29,13 @@ pub fn groups_last()
 {}
 
 // That comes at some depth not above the count of sections.
+#[tactic(auto, using(crate::proofs::Theorems::groups_settle))]
 pub fn groups_settle()
     ensures { GroupsSettle }
 {}
 
 // Agreement there is agreement at every depth.
+#[tactic(auto, using(crate::proofs::Theorems::depth_decides))]
 pub fn depth_decides()
     ensures { DepthDecides }
 {}
@@ -43,6 +46,7 @@ pub fn rounds_are_least()
 {}
 
 // The representative is the lowest of its group.
+#[tactic(auto, using(crate::proofs::Theorems::lowest_represents))]
 pub fn lowest_represents()
     ensures { LowestRepresents }
 {}
@@ -58,6 +62,7 @@ pub fn matching_alike()
 {}
 
 // The definitions give what each worked example says.
+#[tactic(auto, using(crate::proofs::Examples::examples_hold))]
 pub fn examples_hold()
     ensures { ExamplesHold }
 {}
