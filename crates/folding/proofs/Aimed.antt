@@ -1,7 +1,9 @@
 -- Relocations with their targets put elsewhere.
-use Rattle.std.proofs.Common.{◌≡◌, ℕ, ◌^◌, ◌<◌, List, [], ◌∷◌, map, length, ℤ, ◌≤ℤ◌, Some, None, Option, sym, refl, ap, subst}
+use Rattle.std.proofs.Common.{◌≡◌, ℕ, zero, suc, ◌^◌, ◌<◌, List, [], ◌∷◌, map, length, get_or, ℤ, ◌≤ℤ◌, Some, None, Option, sym, refl, ap, subst}
 use Rattle.std.specs.Option.{option_map}
+use Rattle.std.specs.List.{slice_get}
 use Rattle.std.proofs.lemmas.List.{length-map}
+use Rattle.std.proofs.lemmas.List.Folds.{map_fixed}
 use Rattle.std.proofs.ByRecursion.{All-map, All-weaker}
 use Rattle.model.specs.declared.Target.{Target}
 use Rattle.model.specs.declared.Target.TheVariants.{Section, Outside}
@@ -9,7 +11,7 @@ use Rattle.model.specs.declared.Relocation.{Relocation}
 use Rattle.model.specs.Graph.{Body}
 use Rattle.model.specs.Laws.{Aimed, highest, LawfulRelocation, LawfulBody}
 use Rattle.unfolding.specs.Depth.{told_map, arm_map, shape_map}
-use Rattle.unfolding.specs.Telling.{Telling, Lawful, told_target, arm, seen}
+use Rattle.unfolding.specs.Telling.{Telling, Lawful, told_target, arm, seen, with_relocations}
 use Rattle.unfolding.specs.Groups.{aimed_at, aimed, moved}
 
 -- what unfoldings tell of a section whose relocations were moved
@@ -40,18 +42,25 @@ moved_same : (f : ℕ → ℕ) → ((t : ℕ) → f t ≡ t) → (t : Target) �
 moved_same f same (Section t) = ap {B = Target} Section (same t)
 moved_same f same (Outside e) = refl
 
-relocations_same : (f : ℕ → ℕ) → ((t : ℕ) → f t ≡ t) → (rs : List Relocation) → map (aimed_at (moved f)) rs ≡ rs
-relocations_same f same [] = refl
-relocations_same f same (r ∷ rs) =
-    let here = moved_same f same r.target in
-    let rest = relocations_same f same rs in
-    λ i. record { offset = r.offset; kind = r.kind; target = here i; displacement = r.displacement } ∷ rest i
+pub relocations_same : (f : Target → Target) → ((t : Target) → f t ≡ t) → (rs : List Relocation) → map (aimed_at f) rs ≡ rs
+relocations_same f same rs =
+    map_fixed (aimed_at f) rs (λ j r _. ap (λ (t : Target). record (get_or rs j r) { target = t }) (same (get_or rs j r).target))
 
 pub aimed_same : (f : ℕ → ℕ) → ((t : ℕ) → f t ≡ t) → (b : Option Body) → option_map (aimed (moved f)) b ≡ b
 aimed_same f same None = refl
 aimed_same f same (Some b) =
-    let rs = relocations_same f same b.relocations in
-    λ i. Some (record { flags = b.flags; alignment = b.alignment; bytes = b.bytes; setting = b.setting; relocations = rs i })
+    ap (λ (rs : List Relocation). Some (with_relocations b rs)) (relocations_same (moved f) (moved_same f same) b.relocations)
+
+-- relocations put elsewhere by two functions that agree where it matters
+pub relocations_agree :
+    (f h : Target → Target) (rs : List Relocation) →
+    ((j : ℕ) (r : Relocation) → slice_get rs j ≡ Some r → f r.target ≡ h r.target) →
+    map (aimed_at f) rs ≡ map (aimed_at h) rs
+relocations_agree f h [] same = refl
+relocations_agree f h (r ∷ rs) same =
+    let here = same zero r refl in
+    let rest = relocations_agree f h rs (λ j. same (suc j)) in
+    λ i. record r { target = here i } ∷ rest i
 
 -- the laws of a section, where the new targets are lawful and bear the old displacements
 pub lawful_aimed :

@@ -1,8 +1,9 @@
 -- The folded graph.
-use Rattle.std.proofs.Common.{◌≡◌, ℕ, zero, suc, ◌+◌, ◌≤◌, Bool, true, false, cond, ◌&&◌, eqb, List, [], ◌∷◌, map, ℤ, ◌≤ℤ◌, is_some, Some, None, Option, sym, refl, ap, ◌∙◌, subst, ⊎_elim, arith}
+use Rattle.std.proofs.Common.{◌≡◌, ℕ, zero, suc, ◌+◌, ◌≤◌, Bool, true, false, cond, ◌&&◌, eqb, get_or, ℤ, ◌≤ℤ◌, is_some, Some, None, Option, sym, refl, ap, ◌∙◌, subst, ⊎_elim, arith}
 use Rattle.std.specs.Option.{option_map}
 use Rattle.std.proofs.lemmas.Bool.{cases_Bool, both_ways, cond-true, cond-false, eq-eqb, ne_eqb, eqb-true, eqb-false}
 use Rattle.std.proofs.lemmas.List.{length-map}
+use Rattle.std.proofs.lemmas.List.Folds.{map_fixed}
 use Rattle.std.proofs.ByRecursion.{All-map, All-weaker}
 use Rattle.model.specs.declared.Target.{Target}
 use Rattle.model.specs.declared.Target.TheVariants.{Section, Outside}
@@ -202,12 +203,6 @@ module _ {M F : Type 0} (T : Telling M F) (L : Lawful T) (g : Graph) where
       (λ h. rep_itself T L g s h)
       (cases_Bool (foldable g s))
 
-  roots_own : ((s : ℕ) → rep_by T g s ≡ s) → (ss : List ℕ) → map (rep_by T g) ss ≡ ss
-  roots_own own [] = refl
-  roots_own own (s ∷ ss) =
-      let rest = roots_own own ss in
-      λ i. own s i ∷ rest i
-
   pub fold_settled : ApartBy T g → folded_by T g ≡ g
   fold_settled apart =
       let own = apart_own apart in
@@ -216,5 +211,5 @@ module _ {M F : Type 0} (T : Telling M F) (L : Lawful T) (g : Graph) where
       (λ s.
       cond-true (eqb (rep_by T g s) s) (option_map (aimed (moved (rep_by T g))) (section_of g s)) None (eq-eqb (rep_by T g s) s (own s)) ∙
       aimed_same (rep_by T g) own (section_of g s)) in
-      let roots = roots_own own g.roots in
+      let roots = map_fixed (rep_by T g) g.roots (λ j s _. own (get_or g.roots j s)) in
       λ i. record { sections = sections i; roots = roots i }

@@ -1,5 +1,5 @@
 -- The swept graph.
-use Rattle.std.proofs.Common.{◌≡◌, ℕ, zero, suc, ◌+◌, ◌≤◌, Bool, true, false, cond, ◌&&◌, List, [], ◌∷◌, map, length, is_some, Some, None, Option, sym, refl, ap, ◌∙◌, subst, ⊎_elim, arith}
+use Rattle.std.proofs.Common.{◌≡◌, ℕ, zero, suc, ◌+◌, ◌≤◌, Bool, true, false, cond, ◌&&◌, List, [], ◌∷◌, map, is_some, Some, None, Option, sym, refl, ap, ◌∙◌, subst, ⊎_elim, arith}
 use Rattle.std.specs.List.{slice_get}
 use Rattle.std.proofs.lemmas.Bool.{cases_lt, both_ways, cond-true, cond-false}
 use Rattle.std.proofs.lemmas.List.{get_or_past}
@@ -7,7 +7,8 @@ use Rattle.model.specs.declared.Target.{Target}
 use Rattle.model.specs.declared.Target.TheVariants.{Section, Outside}
 use Rattle.model.specs.declared.Relocation.{Relocation}
 use Rattle.model.specs.Graph.{Body, Graph, Present, section_of, count_of, told_relocation}
-use Rattle.model.specs.Laws.{Aimed, LawfulRelocation, LawfulBody, Valid}
+use Rattle.model.specs.Laws.{Valid}
+use Rattle.model.proofs.Lawful.{lawful_under}
 use Rattle.steps.specs.Below.{count_below}
 use Rattle.steps.proofs.Count.{count_parts, count_same}
 use Rattle.steps.proofs.Nth.{all_at, all_from}
@@ -108,34 +109,6 @@ module _ (g : Graph) where
 
   -- the laws hold again
 
-  aimed_swept : (t : Target) → ((s : ℕ) → t ≡ Section s → Reached g s) → Aimed (Present g) t → Aimed (Present (swept g)) t
-  aimed_swept (Section s) h a = present_swept (h s refl) a
-  aimed_swept (Outside e) h a = a
-
-  body_swept : (s : ℕ) → Reached g s → (b : Body) → section_of g s ≡ Some b → LawfulBody (Present g) b → LawfulBody (Present (swept g)) b
-  body_swept s q b e l =
-      record {
-        flags = l.flags;
-        alignment = l.alignment;
-        size = l.size;
-        bytes = l.bytes;
-        few = l.few;
-        relocations =
-            all_from
-            (LawfulRelocation (Present (swept g)) (length b.bytes))
-            b.relocations
-            (λ j r f.
-            let h = all_at (LawfulRelocation (Present g) (length b.bytes)) b.relocations j r l.relocations f in
-            record {
-              offset = h.offset;
-              kind = h.kind;
-              aimed =
-                  aimed_swept r.target (λ t at. step j q (ap (λ (o : Option Body). told_relocation o j) e ∙ f) at) h.aimed;
-              low = h.low;
-              high = h.high;
-            });
-      }
-
   pub swept_valid : Valid g → Valid (swept g)
   swept_valid v =
       record {
@@ -145,7 +118,9 @@ module _ (g : Graph) where
             λ s b e.
             let q = (swept_present s (ap (λ (o : Option Body). is_some o) e)).1 in
             let was : section_of g s ≡ Some b = sym (reached_stays q) ∙ e in
-            body_swept s q b was (v.bodies s b was);
+            lawful_under (Present g) (Present (swept g)) b
+            (λ j r t f at p. present_swept (step j q (ap (λ (o : Option Body). told_relocation o j) was ∙ f) at) p)
+            (v.bodies s b was);
         rooted =
             all_from
             (Present (swept g))

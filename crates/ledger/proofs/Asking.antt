@@ -11,7 +11,7 @@ use Rattle.model.specs.declared.Target.{Target}
 use Rattle.model.specs.declared.Relocation.{Relocation}
 use Rattle.model.specs.declared.Record.{Record}
 use Rattle.model.specs.Graph.{Body, Graph, section_of, count_of, told_record, told_byte, told_relocation, record_of, byte_of, relocation_of, root_of, root_count_of}
-use Rattle.steps.proofs.Nth.{nth_map}
+use Rattle.std.proofs.lemmas.Option.{slice_get-map}
 use Rattle.unfolding.specs.Groups.{aimed_at, aimed, moved, present}
 use Rattle.calls.specs.declared.Slot.{Slot}
 use Rattle.calls.specs.declared.Slot.TheVariants.{Untouched, Folded, Swept}
@@ -113,8 +113,8 @@ tells_relocation g t s j =
         cond (untouched x) (option_map (aimed_at f) (told_relocation o j)) None
     go f Untouched true None = refl
     go f Untouched false None = refl
-    go f Untouched true (Some b) = nth_map (aimed_at f) b.relocations j
-    go f Untouched false (Some b) = nth_map (aimed_at f) b.relocations j
+    go f Untouched true (Some b) = slice_get-map (aimed_at f) b.relocations j
+    go f Untouched false (Some b) = slice_get-map (aimed_at f) b.relocations j
     go f (Folded u) c o = refl
     go f Swept c o = refl
 
@@ -158,7 +158,7 @@ nth_out xs j e =
 pub tells_root : (g : Graph) (t : Ledger) (j : ℕ) → root_of (told g t).graph j ≡ seen_root t (root_count_of g) j (root_of g j)
 tells_root g t j =
     ap (λ (xs : List ℕ). slice_get xs j) (told_roots g t) ∙
-    (nth_map (found_number t.slots.list) (g.roots ++ t.roots.items) j ∙ go (root_of g j) refl)
+    (slice_get-map (found_number t.slots.list) (g.roots ++ t.roots.items) j ∙ go (root_of g j) refl)
   where
     go :
         (o : Option ℕ) →

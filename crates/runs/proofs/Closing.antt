@@ -10,16 +10,11 @@ use Rattle.calls.specs.declared.Slot.{Slot}
 use Rattle.calls.specs.declared.Slot.TheVariants.{Untouched, Folded, Swept}
 use Rattle.calls.specs.declared.Place.{Place}
 use Rattle.calls.specs.declared.Place.TheVariants.{At, Absent, Swept as Nowhere}
-use Rattle.runs.specs.State.{State, slot_of, slots_by, ended, found_at}
+use Rattle.runs.specs.State.{State, slot_of, untouched, slots_by, ended, found_at}
 use Rattle.runs.proofs.Slots.{slots_at, slots_length, Changed, same, drops, joins, next_place, changed_descends, found_changed}
-use Rattle.runs.proofs.Invariant.{Invariant, untouched, present_untouched, drawn_present, found_present}
+use Rattle.runs.proofs.Invariant.{Invariant, present_untouched, drawn_present, found_present}
 
 -- what a sweep and a fold have in common: a present section stays or gets a new slot
-
-pub same_test : (a b : Bool) → (a ≡ true → b ≡ true) → (b ≡ true → a ≡ true) → a ≡ b
-same_test true b f h = sym (f refl)
-same_test false true f h = h refl
-same_test false false f h = refl
 
 -- the slot of a section that does not stay
 pub data Fate (g : Graph) (stays : ℕ → Bool) (s : ℕ) : Slot → Type 0 where
@@ -128,14 +123,7 @@ module _ (g : Graph) (st : State) (a b : Bool) (i : Invariant g st a b) (stays :
       (b' ≡ true → Apart next) →
       (a' ≡ true → AllReached next) →
       Invariant g
-      (record {
-        drawn = st.drawn;
-        graph = next;
-        slots = next_slots;
-        bound = st.bound;
-        added = st.added;
-        closed = true;
-      })
+      (record st { graph = next; slots = next_slots; closed = true })
       a'
       b'
   closing next a' b' v c there alike as_many roots apart all =

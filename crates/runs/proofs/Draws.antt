@@ -4,13 +4,14 @@ use Rattle.std.specs.Option.{option_map}
 use Rattle.std.specs.List.{slice_get}
 use Rattle.std.proofs.lemmas.Bool.{cond-true, cond-false, eq-eqb, ne_eqb}
 use Rattle.std.proofs.lemmas.List.{length-map, length_push}
+use Rattle.std.proofs.lemmas.Option.{slice_get-map}
 use Rattle.std.proofs.ByRecursion.{All-weaker, All-push}
 use Rattle.std.proofs.lemmas.Int.{ints}
 use Rattle.model.specs.declared.Target.{Target}
 use Rattle.model.specs.declared.Target.TheVariants.{Section, Outside}
-use Rattle.model.specs.Graph.{Body, Graph, Present, section_of, count_of, told_record, told_byte, told_relocation, relocation_of, root_count_of}
-use Rattle.model.specs.Laws.{Aimed, highest, LawfulRelocation, LawfulBody, Valid}
-use Rattle.steps.proofs.Nth.{nth_map}
+use Rattle.model.specs.Graph.{Body, Graph, Present, section_of, count_of, record_in, told_record, told_byte, told_relocation, relocation_of, root_count_of}
+use Rattle.model.specs.Laws.{Aimed, highest, LawfulBody, Valid}
+use Rattle.model.proofs.Lawful.{lawful_under}
 use Rattle.unfolding.specs.Groups.{aimed_at, aimed, present}
 use Rattle.folding.proofs.Rebuilt.{rebuilt_at, rebuilt_length}
 use Rattle.folding.proofs.Aimed.{lawful_aimed}
@@ -94,34 +95,6 @@ bind_valid e s g v p =
         same
         (lawful_aimed (Present g) (Present (bind e s g)) (bound_target e s) aims bears c (v.bodies t c f))
 
-lawful_again : (A B : ℕ → Type 0) → ((t : ℕ) → A t → B t) → (b : Body) → LawfulBody A b → LawfulBody B b
-lawful_again A B again b l =
-    record {
-      flags = l.flags;
-      alignment = l.alignment;
-      size = l.size;
-      bytes = l.bytes;
-      few = l.few;
-      relocations =
-          All-weaker
-          (LawfulRelocation A (length b.bytes))
-          (LawfulRelocation B (length b.bytes))
-          (λ r h.
-          record {
-            offset = h.offset;
-            kind = h.kind;
-            aimed = aims r.target h.aimed;
-            low = h.low;
-            high = h.high;
-          })
-          b.relocations
-          l.relocations;
-    }
-  where
-    aims : (t : Target) → Aimed A t → Aimed B t
-    aims (Section t) h = again t h
-    aims (Outside x) h = h
-
 pub pin_valid : (s : ℕ) (g : Graph) → Valid g → Valid (pin s g)
 pin_valid s g v =
     record {
@@ -133,6 +106,9 @@ pin_valid s g v =
   where
     again : (t : ℕ) → Present g t → Present (pin s g) t
     again t h = pin_present s g t ∙ h
+
+    under : (b : Body) → LawfulBody (Present g) b → LawfulBody (Present (pin s g)) b
+    under b l = lawful_under (Present g) (Present (pin s g)) b (λ _ _ t _ _ h. again t h) l
 
     bare : (b : Body) → LawfulBody (Present (pin s g)) b → LawfulBody (Present (pin s g)) (as_pinned b)
     bare b l =
@@ -161,13 +137,13 @@ pin_valid s g v =
         subst
         (LawfulBody (Present (pin s g)))
         same
-        (bare o (lawful_again (Present g) (Present (pin s g)) again o (v.bodies t o f)))
+        (bare o (under o (v.bodies t o f)))
     go t b false (Some o) f h =
         let same : o ≡ b = cc in
         subst
         (LawfulBody (Present (pin s g)))
         same
-        (lawful_again (Present g) (Present (pin s g)) again o (v.bodies t o f))
+        (under o (v.bodies t o f))
 
 pub root_valid : (s : ℕ) (g : Graph) → Valid g → Present g s → root_count_of g < 4096 → Valid (root s g)
 root_valid s g v p room =
@@ -184,15 +160,7 @@ aimed_record : (f : Target → Target) (b : Option Body) → told_record (option
 aimed_record f None = refl
 aimed_record f (Some b) =
     let n = length-map b.relocations (aimed_at f) in
-    λ i.
-    Some
-    (record {
-      flags = b.flags;
-      alignment = b.alignment;
-      size = length b.bytes;
-      relocations = n i;
-      setting = b.setting;
-    })
+    λ i. Some (record (record_in b) { relocations = n i })
 
 aimed_byte : (f : Target → Target) (b : Option Body) (i : ℕ) → told_byte (option_map (aimed f) b) i ≡ told_byte b i
 aimed_byte f None i = refl
@@ -200,7 +168,7 @@ aimed_byte f (Some b) i = refl
 
 aimed_relocation : (f : Target → Target) (b : Option Body) (j : ℕ) → told_relocation (option_map (aimed f) b) j ≡ option_map (aimed_at f) (told_relocation b j)
 aimed_relocation f None j = refl
-aimed_relocation f (Some b) j = nth_map (aimed_at f) b.relocations j
+aimed_relocation f (Some b) j = slice_get-map (aimed_at f) b.relocations j
 
 bound_relocation : (e s : ℕ) (g : Graph) (t j : ℕ) → relocation_of (bind e s g) t j ≡ option_map (aimed_at (bound_target e s)) (relocation_of g t j)
 bound_relocation e s g t j =

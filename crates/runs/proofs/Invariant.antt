@@ -9,13 +9,8 @@ use Rattle.unfolding.specs.Sections.{Agree, Alike, Apart, AllReached}
 use Rattle.calls.specs.declared.Slot.{Slot}
 use Rattle.calls.specs.declared.Slot.TheVariants.{Untouched, Folded, Swept}
 use Rattle.calls.specs.declared.Place.TheVariants.{At, Swept as Nowhere}
-use Rattle.runs.specs.State.{State, slot_of, found_at}
+use Rattle.runs.specs.State.{State, slot_of, untouched, found_at}
 use Rattle.runs.proofs.Slots.{fresh_at, Descending, found_untouched, Ending, found_cases}
-
-abbrev pub untouched : Slot → Bool
-untouched Untouched = true
-untouched (Folded t) = false
-untouched Swept = false
 
 -- what holds of the state after any calls on a new pile over g, where `sweeps` and `folds` say what was among them
 pub record Invariant (g : Graph) (st : State) (sweeps folds : Bool) : Type 0 where
@@ -138,15 +133,7 @@ pub open_again :
     Invariant g st a b
 open_again g st a b shut graph slots v c p no-a no-b =
     let same : opened st.drawn st.bound st.added ≡ st =
-    λ i.
-    record {
-      drawn = st.drawn;
-      graph = sym graph i;
-      slots = sym slots i;
-      bound = st.bound;
-      added = st.added;
-      closed = sym shut i;
-    } in
+    λ i. record st { graph = sym graph i; slots = sym slots i; closed = sym shut i } in
     subst (λ (x : State). Invariant g x a b) same (fresh g st.drawn st.bound st.added a b v c p no-a no-b)
 
 -- a present section is untouched, and present in the drawn graph

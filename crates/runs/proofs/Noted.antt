@@ -1,13 +1,15 @@
 -- The drawn graph told at once from what was noted of the calls.
-use Rattle.std.proofs.Common.{◌≡◌, ℕ, Bool, true, false, cond, ◌||◌, eqb, List, [], ◌∷◌, ◌++◌, map, Some, None, Option, sym, refl, ap, ◌∙◌}
+use Rattle.std.proofs.Common.{◌≡◌, ℕ, Bool, true, false, cond, ◌||◌, eqb, List, [], ◌∷◌, ◌++◌, Some, None, Option, sym, refl, ap, ◌∙◌}
 use Rattle.std.specs.Option.{option_map}
 use Rattle.std.proofs.lemmas.List.{ext_get_or, append-nil, append_assoc}
+use Rattle.std.proofs.lemmas.Simd.{map-map}
 use Rattle.model.specs.declared.Setting.TheVariants.{Pinned}
 use Rattle.model.specs.declared.Target.{Target}
 use Rattle.model.specs.declared.Relocation.{Relocation}
 use Rattle.model.specs.Graph.{Body, Graph, section_of, count_of}
 use Rattle.unfolding.specs.Groups.{aimed_at, aimed}
 use Rattle.folding.proofs.Rebuilt.{rebuilt_at, rebuilt_length, rebuilt_same}
+use Rattle.folding.proofs.Aimed.{relocations_same, relocations_agree}
 use Rattle.runs.specs.Drawn.{bound_target, bind, as_pinned, pin, root}
 use Rattle.runs.specs.Noted.{noted_body, noted, Notes}
 use Rattle.runs.proofs.Draws.{bind_at, bind_count, pin_at, pin_count}
@@ -19,39 +21,14 @@ pub noted_count : (f : Target → Target) (p : ℕ → Bool) (more : List ℕ) (
 noted_count f p more g = rebuilt_length (λ s b. option_map (noted_body f (p s)) b) g
 
 -- two graphs with the same sections and roots
-same_graph : (g h : Graph) → count_of g ≡ count_of h → ((s : ℕ) → section_of g s ≡ section_of h s) → g.roots ≡ h.roots → g ≡ h
+pub same_graph : (g h : Graph) → count_of g ≡ count_of h → ((s : ℕ) → section_of g s ≡ section_of h s) → g.roots ≡ h.roots → g ≡ h
 same_graph g h count each roots =
     let sections = ext_get_or None g.sections h.sections count (λ s _. each s) in
     λ i. record { sections = sections i; roots = roots i }
 
 abbrev with_list : Body → Bool → List Relocation → Body
 with_list b p rs =
-    record {
-      flags = b.flags;
-      alignment = b.alignment;
-      bytes = b.bytes;
-      setting = cond p Pinned b.setting;
-      relocations = rs;
-    }
-
-list_id : (rs : List Relocation) → map (aimed_at (λ x. x)) rs ≡ rs
-list_id [] = refl
-list_id (r ∷ rs) =
-    let rest = list_id rs in
-    λ i. r ∷ rest i
-
-list_after : (f h : Target → Target) (rs : List Relocation) → map (aimed_at h) (map (aimed_at f) rs) ≡ map (aimed_at (λ x. h (f x))) rs
-list_after f h [] = refl
-list_after f h (r ∷ rs) =
-    let rest = list_after f h rs in
-    λ i. aimed_at (λ x. h (f x)) r ∷ rest i
-
-list_same : (f h : Target → Target) → ((x : Target) → f x ≡ h x) → (rs : List Relocation) → map (aimed_at f) rs ≡ map (aimed_at h) rs
-list_same f h same [] = refl
-list_same f h same (r ∷ rs) =
-    let here = same r.target in
-    let rest = list_same f h same rs in
-    λ i. record { offset = r.offset; kind = r.kind; target = here i; displacement = r.displacement } ∷ rest i
+    record b { setting = cond p Pinned b.setting; relocations = rs }
 
 nothing : (g : Graph) → noted (λ x. x) (λ _. false) [] g ≡ g
 nothing g =
@@ -62,7 +39,7 @@ nothing g =
   where
     plain : (o : Option Body) → option_map (noted_body (λ x. x) false) o ≡ o
     plain None = refl
-    plain (Some b) = ap (λ (rs : List Relocation). Some (with_list b false rs)) (list_id b.relocations)
+    plain (Some b) = ap (λ (rs : List Relocation). Some (with_list b false rs)) (relocations_same (λ x. x) (λ _. refl) b.relocations)
 
 module _ (f : Target → Target) (p : ℕ → Bool) (more : List ℕ) (g : Graph) where
   binds : (e s : ℕ) → bind e s (noted f p more g) ≡ noted (λ x. bound_target e s (f x)) p more g
@@ -78,7 +55,7 @@ module _ (f : Target → Target) (p : ℕ → Bool) (more : List ℕ) (g : Graph
       twice : (c : Bool) (o : Option Body) → option_map (aimed (bound_target e s)) (option_map (noted_body f c) o) ≡ option_map (noted_body (λ x. bound_target e s (f x)) c) o
       twice c None = refl
       twice c (Some b) =
-          ap (λ (rs : List Relocation). Some (with_list b c rs)) (list_after f (bound_target e s) b.relocations)
+          ap (λ (rs : List Relocation). Some (with_list b c rs)) (map-map (aimed_at (bound_target e s)) (aimed_at f) b.relocations)
 
   pins : (s : ℕ) → pin s (noted f p more g) ≡ noted f (λ t. eqb t s || p t) more g
   pins s =
@@ -98,7 +75,7 @@ module _ (f : Target → Target) (p : ℕ → Bool) (more : List ℕ) (g : Graph
   roots : (s : ℕ) → root s (noted f p more g) ≡ noted f p (more ++ s ∷ []) g
   roots s =
       let rs = append_assoc g.roots more (s ∷ []) in
-      λ i. record { sections = (noted f p more g).sections; roots = rs i }
+      λ i. record (noted f p more g) { roots = rs i }
 
   same : (h : Target → Target) (q : ℕ → Bool) → ((x : Target) → f x ≡ h x) → ((s : ℕ) → p s ≡ q s) → noted f p more g ≡ noted h q more g
   same h q fh pq =
@@ -111,16 +88,8 @@ module _ (f : Target → Target) (p : ℕ → Bool) (more : List ℕ) (g : Graph
       each s None = refl
       each s (Some b) =
           let here = pq s in
-          let rs = list_same f h fh b.relocations in
-          λ i.
-          Some
-          (record {
-            flags = b.flags;
-            alignment = b.alignment;
-            bytes = b.bytes;
-            setting = cond (here i) Pinned b.setting;
-            relocations = rs i;
-          })
+          let rs = relocations_agree f h b.relocations (λ _ r _. fh r.target) in
+          λ i. Some (with_list b (here i) (rs i))
 
 pub notes : Notes
 notes =

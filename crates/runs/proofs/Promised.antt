@@ -81,17 +81,9 @@ same_state :
     next ≡ st.graph →
     slots ≡ st.slots →
     st.closed ≡ true →
-    record { drawn = st.drawn; graph = next; slots = slots; bound = st.bound; added = st.added; closed = true } ≡ st
+    record st { graph = next; slots = slots; closed = true } ≡ st
 same_state st next slots e f c =
-    λ i.
-    record {
-      drawn = st.drawn;
-      graph = e i;
-      slots = f i;
-      bound = st.bound;
-      added = st.added;
-      closed = sym c i;
-    }
+    λ i. record st { graph = e i; slots = f i; closed = sym c i }
 
 module _ (g : Graph) (st : State) (i : Invariant g st true true) where
   step_settled : (c : Call) → step st c ≡ st

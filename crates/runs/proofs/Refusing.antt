@@ -2,6 +2,7 @@
 use Rattle.std.proofs.Common.{◌≡◌, ℕ, ◌+◌, ◌<◌, ◌≤◌, Bool, true, false, not, ◌||◌, eqb, leb, ◌⊎◌, List, [], ◌∷◌, ◌++◌, length, Some, None, Option, sym, refl, ap, ◌∙◌, subst, ⊎_elim, arith}
 use Rattle.std.proofs.lemmas.Bool.{cases_Bool, eq-eqb, eqb-true, le-leb, lt-leb, or_left, or_right, or_from, or_cases}
 use Rattle.std.proofs.lemmas.List.{append-nil, append_assoc, length-append}
+use Rattle.std.proofs.Math.Bool.{or_assoc, or-false, or-true}
 use Rattle.fault.specs.declared.Fault.{Fault}
 use Rattle.model.specs.Graph.{Present, root_count_of}
 use Rattle.unfolding.specs.Groups.{present}
@@ -165,39 +166,27 @@ or_swap false true true d = refl
 or_swap false true false d = refl
 or_swap false false c d = refl
 
-or_assoc : (a b c : Bool) → ((a || b) || c) ≡ (a || (b || c))
-or_assoc true b c = refl
-or_assoc false b c = refl
-
-or_false : (a : Bool) → a ≡ (a || false)
-or_false true = refl
-or_false false = refl
-
-or_true : (a : Bool) → true ≡ (a || true)
-or_true true = refl
-or_true false = refl
-
 step_closed : (st : State) (c : Call) → (step st c).closed ≡ (st.closed || (is_sweep c || is_fold c))
 step_closed st (Bind e s) = go (refusal st (Bind e s))
   where
     go : (o : Option Fault) → (unless o st (moved st (Bind e s))).closed ≡ (st.closed || false)
-    go None = or_false st.closed
-    go (Some f) = or_false st.closed
+    go None = sym (or-false st.closed)
+    go (Some f) = sym (or-false st.closed)
 step_closed st (Pin s) = go (refusal st (Pin s))
   where
     go : (o : Option Fault) → (unless o st (moved st (Pin s))).closed ≡ (st.closed || false)
-    go None = or_false st.closed
-    go (Some f) = or_false st.closed
+    go None = sym (or-false st.closed)
+    go (Some f) = sym (or-false st.closed)
 step_closed st (Root s) = go (refusal st (Root s))
   where
     go : (o : Option Fault) → (unless o st (moved st (Root s))).closed ≡ (st.closed || false)
-    go None = or_false st.closed
-    go (Some f) = or_false st.closed
-step_closed st Sweep = or_true st.closed
-step_closed st Fold = or_true st.closed
+    go None = sym (or-false st.closed)
+    go (Some f) = sym (or-false st.closed)
+step_closed st Sweep = sym (or-true st.closed)
+step_closed st Fold = sym (or-true st.closed)
 
 closed_follows : (st : State) (calls : List Call) → (run st calls).closed ≡ (st.closed || (some_call is_sweep calls || some_call is_fold calls))
-closed_follows st [] = or_false st.closed
+closed_follows st [] = sym (or-false st.closed)
 closed_follows st (c ∷ cs) =
     closed_follows (step st c) cs ∙
     (ap (λ (b : Bool). b || (some_call is_sweep cs || some_call is_fold cs)) (step_closed st c) ∙

@@ -1,13 +1,16 @@
 -- The pile's graph is the drawn graph seen through the slots.
-use Rattle.std.proofs.Common.{◌≡◌, ℕ, zero, suc, Bool, true, false, ◌&&◌, ◌||◌, List, [], ◌∷◌, map, length, replicate, is_some, Some, None, Option, sym, refl, ap, ◌∙◌, subst, ⊎_elim, arith}
+use Rattle.std.proofs.Common.{◌≡◌, ℕ, zero, suc, Bool, true, false, ◌&&◌, ◌||◌, List, [], ◌∷◌, map, length, get_or, replicate, is_some, Some, None, Option, sym, refl, ap, ◌∙◌, subst, ⊎_elim, arith}
 use Rattle.std.specs.Option.{option_map}
 use Rattle.std.specs.List.{slice_get}
 use Rattle.std.proofs.lemmas.Bool.{both_ways, cases_Bool, and_left}
 use Rattle.std.proofs.lemmas.List.{ext_get_or}
+use Rattle.std.proofs.lemmas.List.Folds.{map_fixed}
+use Rattle.std.proofs.lemmas.Simd.{map-map}
 use Rattle.model.specs.declared.Target.{Target}
 use Rattle.model.specs.declared.Target.TheVariants.{Section, Outside}
 use Rattle.model.specs.declared.Relocation.{Relocation}
 use Rattle.model.specs.Graph.{Body, Graph, Present, section_of, count_of, told_relocation, relocation_of}
+use Rattle.unfolding.specs.Telling.{with_relocations}
 use Rattle.unfolding.specs.Groups.{foldable, aimed_at, aimed, moved, present}
 use Rattle.unfolding.specs.Reach.{Reached, step as by_step, reached, swept}
 use Rattle.unfolding.specs.Sections.{rules, rep, folded}
@@ -15,7 +18,7 @@ use Rattle.unfolding.proofs.Marks.{fold_present}
 use Rattle.unfolding.proofs.Rules.{lawful_rules}
 use Rattle.unfolding.proofs.Classes.{rep_itself}
 use Rattle.folding.proofs.Rebuilt.{rebuilt_at, rebuilt_length, rebuilt_same}
-use Rattle.folding.proofs.Aimed.{aimed_same}
+use Rattle.folding.proofs.Aimed.{aimed_same, relocations_agree}
 use Rattle.folding.proofs.Folded.{folded_stays}
 use Rattle.folding.proofs.Both.{aimed_relocation, target_present}
 use Rattle.folding.proofs.Theorems.{sweep_sweeps, fold_folds}
@@ -26,11 +29,11 @@ use Rattle.calls.specs.declared.Call.TheVariants.{Bind, Pin, Root, Sweep, Fold}
 use Rattle.calls.specs.declared.Place.{Place}
 use Rattle.calls.specs.declared.Place.TheVariants.{At, Absent, Swept as Nowhere}
 use Rattle.fault.specs.declared.Fault.{Fault}
-use Rattle.runs.specs.State.{State, start, closed_fault, refusal, moved as done, unless, step, run, slot_of, found_at}
+use Rattle.runs.specs.State.{State, start, closed_fault, refusal, moved as done, unless, step, run, slot_of, untouched, found_at}
 use Rattle.runs.specs.Promise.{is_sweep, is_fold}
 use Rattle.runs.specs.Seen.{number_or, found_number, left_of, seen_section, seen_through, PileSeen}
 use Rattle.runs.proofs.Slots.{fresh_at, found_untouched, next_place}
-use Rattle.runs.proofs.Invariant.{Invariant, untouched, present_untouched, found_present}
+use Rattle.runs.proofs.Invariant.{Invariant, present_untouched, found_present}
 use Rattle.runs.proofs.Closing.{next_found}
 use Rattle.runs.proofs.Steps.{swept_fate, own, joined_to, folded_fate, sweeps_kept, folds_rep, passed, or_none, sweep_keeps, fold_keeps, step_keeps, new_keeps}
 
@@ -40,13 +43,6 @@ moved_after : (f h k : ℕ → ℕ) → ((t : ℕ) → k t ≡ f (h t)) → (x :
 moved_after f h k same (Section t) = ap {B = Target} Section (sym (same t))
 moved_after f h k same (Outside e) = refl
 
-list_after : (f h k : ℕ → ℕ) → ((t : ℕ) → k t ≡ f (h t)) → (rs : List Relocation) → map (aimed_at (moved f)) (map (aimed_at (moved h)) rs) ≡ map (aimed_at (moved k)) rs
-list_after f h k same [] = refl
-list_after f h k same (r ∷ rs) =
-    let here = moved_after f h k same r.target in
-    let rest = list_after f h k same rs in
-    λ i. record { offset = r.offset; kind = r.kind; target = here i; displacement = r.displacement } ∷ rest i
-
 aimed_after :
     (f h k : ℕ → ℕ) →
     ((t : ℕ) → k t ≡ f (h t)) →
@@ -54,22 +50,13 @@ aimed_after :
     option_map (aimed (moved f)) (option_map (aimed (moved h)) o) ≡ option_map (aimed (moved k)) o
 aimed_after f h k same None = refl
 aimed_after f h k same (Some b) =
-    let rs = list_after f h k same b.relocations in
-    λ i. Some (record { flags = b.flags; alignment = b.alignment; bytes = b.bytes; setting = b.setting; relocations = rs i })
+    ap (λ (rs : List Relocation). Some (with_relocations b rs))
+    (map-map (aimed_at (moved f)) (aimed_at (moved h)) b.relocations ∙
+    relocations_agree (λ x. moved f (moved h x)) (moved k) b.relocations (λ _ r _. moved_after f h k same r.target))
 
 moved_agree : (f h : ℕ → ℕ) (x : Target) → ((t : ℕ) → x ≡ Section t → f t ≡ h t) → moved f x ≡ moved h x
 moved_agree f h (Section t) same = ap {B = Target} Section (same t refl)
 moved_agree f h (Outside e) same = refl
-
-list_agree :
-    (f h : ℕ → ℕ) (rs : List Relocation) →
-    ((j : ℕ) (r : Relocation) (t : ℕ) → slice_get rs j ≡ Some r → r.target ≡ Section t → f t ≡ h t) →
-    map (aimed_at (moved f)) rs ≡ map (aimed_at (moved h)) rs
-list_agree f h [] same = refl
-list_agree f h (r ∷ rs) same =
-    let here = moved_agree f h r.target (λ t. same zero r t refl) in
-    let rest = list_agree f h rs (λ j. same (suc j)) in
-    λ i. record { offset = r.offset; kind = r.kind; target = here i; displacement = r.displacement } ∷ rest i
 
 aimed_agree :
     (f h : ℕ → ℕ) (o : Option Body) →
@@ -77,8 +64,8 @@ aimed_agree :
     option_map (aimed (moved f)) o ≡ option_map (aimed (moved h)) o
 aimed_agree f h None same = refl
 aimed_agree f h (Some b) same =
-    let rs = list_agree f h b.relocations same in
-    λ i. Some (record { flags = b.flags; alignment = b.alignment; bytes = b.bytes; setting = b.setting; relocations = rs i })
+    ap (λ (rs : List Relocation). Some (with_relocations b rs))
+    (relocations_agree (moved f) (moved h) b.relocations (λ j r e. moved_agree f h r.target (λ t. same j r t e)))
 
 -- a section seen through slots
 
@@ -107,13 +94,6 @@ not_some (Some x) e = absurd (both_ways true e refl)
 fresh_number : (s : ℕ) → found_number (replicate 1024 Untouched) s ≡ s
 fresh_number s = ap (number_or s) (found_untouched (replicate 1024 Untouched) s (fresh_at 1024 s))
 
-map_same : (f : ℕ → ℕ) → ((s : ℕ) → f s ≡ s) → (xs : List ℕ) → map f xs ≡ xs
-map_same f same [] = refl
-map_same f same (x ∷ xs) =
-    let here = same x in
-    let rest = map_same f same xs in
-    λ i. here i ∷ rest i
-
 pub fresh_seen : (d : Graph) → seen_through (replicate 1024 Untouched) d ≡ d
 fresh_seen d =
     let slots = replicate 1024 Untouched in
@@ -122,7 +102,7 @@ fresh_seen d =
     (λ s.
     ap (λ (x : Slot). left_of x (option_map (aimed (moved (found_number slots))) (section_of d s))) (fresh_at 1024 s) ∙
     aimed_same (found_number slots) fresh_number (section_of d s)) in
-    let roots = map_same (found_number slots) fresh_number d.roots in
+    let roots = map_fixed (found_number slots) d.roots (λ j s _. fresh_number (get_or d.roots j s)) in
     λ i. record { sections = sections i; roots = roots i }
 
 -- a list that has f s wherever the other has s

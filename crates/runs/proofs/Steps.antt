@@ -1,6 +1,8 @@
 -- Every call keeps the invariant.
 use Rattle.std.proofs.Common.{◌≡◌, ℕ, ◌<◌, Bool, true, false, ◌&&◌, ◌||◌, eqb, leb, List, [], ◌∷◌, length, is_some, Some, None, Option, sym, refl, ap, ◌∙◌, subst, ⊎_elim, arith}
 use Rattle.std.proofs.lemmas.Bool.{both_ways, and_parts, and_from, or_cases, or_parts, eqb-true, eqb-false, eq-eqb, not-false, leb-false}
+use Rattle.std.proofs.lemmas.Bool.Decides.{same_from_decides}
+use Rattle.std.proofs.Math.Bool.{or_assoc}
 use Rattle.fault.specs.declared.Fault.{Fault}
 use Rattle.model.specs.Graph.{Body, Graph, Present, root_of, root_count_of}
 use Rattle.model.specs.Laws.{Valid}
@@ -24,7 +26,7 @@ use Rattle.runs.specs.State.{State, start, closed_fault, no_section, bound_befor
 use Rattle.runs.specs.Promise.{is_sweep, is_fold, some_call}
 use Rattle.runs.proofs.Draws.{bind_count, bind_present, bind_valid, pin_count, pin_present, pin_valid, root_valid}
 use Rattle.runs.proofs.Invariant.{Invariant, less, fresh, open_again}
-use Rattle.runs.proofs.Closing.{same_test, Fate, dropped, joined, goes_to, goes_stays, goes_new, closing}
+use Rattle.runs.proofs.Closing.{Fate, dropped, joined, goes_to, goes_stays, goes_new, closing}
 
 -- the sweep
 
@@ -39,15 +41,14 @@ reached_is g s p e = (reach_decided g s (present_bound g s p)).0 e
 
 pub swept_present : (g : Graph) (s : ℕ) → present (swept g) s ≡ (present g s && reached g s)
 swept_present g s =
-    same_test
-    (present (swept g) s)
-    (present g s && reached g s)
-    (λ p.
-    let h = (sweep_sweeps g).goes s p in
-    and_from (present g s) (reached g s) h.0 (reached_yes g s h.0 h.1))
-    (λ p.
-    let h = and_parts (present g s) (reached g s) p in
-    ap (λ (o : Option Body). is_some o) ((sweep_sweeps g).stays s (reached_is g s h.0 h.1)) ∙ h.0)
+    same_from_decides (present (swept g) s) (present g s && reached g s) (λ p. p, λ p. p) (
+      λ p.
+          let h = and_parts (present g s) (reached g s) p in
+          ap (λ (o : Option Body). is_some o) ((sweep_sweeps g).stays s (reached_is g s h.0 h.1)) ∙ h.0,
+      λ p.
+          let h = (sweep_sweeps g).goes s p in
+          and_from (present g s) (reached g s) h.0 (reached_yes g s h.0 h.1),
+    )
 
 pub root_present : (g : Graph) → Valid g → (j s : ℕ) → root_of g j ≡ Some s → Present g s
 root_present g v j s e = all_at (Present g) g.roots j s v.rooted e
@@ -112,15 +113,14 @@ folded_fate g s p e =
 
 pub folded_present : (g : Graph) (s : ℕ) → present (folded g) s ≡ (present g s && own g s)
 folded_present g s =
-    same_test
-    (present (folded g) s)
-    (present g s && own g s)
-    (λ p.
-    let h = (fold_folds g).goes s p in
-    and_from (present g s) (own g s) h.1 (eq-eqb (rep g s) s h.0))
-    (λ p.
-    let h = and_parts (present g s) (own g s) p in
-    (fold_folds g).stays s h.0 (eqb-true (rep g s) s h.1))
+    same_from_decides (present (folded g) s) (present g s && own g s) (λ p. p, λ p. p) (
+      λ p.
+          let h = and_parts (present g s) (own g s) p in
+          (fold_folds g).stays s h.0 (eqb-true (rep g s) s h.1),
+      λ p.
+          let h = (fold_folds g).goes s p in
+          and_from (present g s) (own g s) h.1 (eq-eqb (rep g s) s h.0),
+    )
 
 module _ (g : Graph) (st : State) (a b : Bool) (i : Invariant g st a b) where
   -- where a present section is found after the fold
@@ -246,10 +246,6 @@ step_keeps g st a b i (Root s) = go (refusal st (Root s)) refl
 step_keeps g st a b i Sweep = sweep_keeps g st a b i (a || true) (b || false) (or_none b)
 step_keeps g st a b i Fold = fold_keeps g st a b i (a || false) (b || true) (or_none a)
 
-or_assoc : (a b c : Bool) → (a || (b || c)) ≡ ((a || b) || c)
-or_assoc true b c = refl
-or_assoc false b c = refl
-
 pub run_keeps :
     (g : Graph) (st : State) (a b : Bool) →
     Invariant g st a b →
@@ -260,8 +256,8 @@ run_keeps g st a b i (c ∷ cs) =
     less
     (a || (is_sweep c || some_call is_sweep cs))
     (b || (is_fold c || some_call is_fold cs))
-    (λ e. sym (or_assoc a (is_sweep c) (some_call is_sweep cs)) ∙ e)
-    (λ e. sym (or_assoc b (is_fold c) (some_call is_fold cs)) ∙ e)
+    (λ e. or_assoc a (is_sweep c) (some_call is_sweep cs) ∙ e)
+    (λ e. or_assoc b (is_fold c) (some_call is_fold cs) ∙ e)
     (run_keeps g (step st c) (a || is_sweep c) (b || is_fold c) (step_keeps g st a b i c) cs)
 
 -- a new pile, and after any calls on it

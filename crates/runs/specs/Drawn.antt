@@ -16,25 +16,18 @@ bound_target e s (Outside x) = cond (x == e) (Section s) (Outside x)
 
 -- each relocation to outside name e has section s as its target
 abbrev pub bind : ℕ → ℕ → Graph → Graph
-bind e s g = record { sections = rebuilt (λ _ b. option_map (aimed (bound_target e s)) b) g; roots = g.roots }
+bind e s g = record g { sections = rebuilt (λ _ b. option_map (aimed (bound_target e s)) b) g }
 
 abbrev pub as_pinned : Body → Body
-as_pinned b =
-    record {
-      flags = b.flags;
-      alignment = b.alignment;
-      bytes = b.bytes;
-      setting = Pinned;
-      relocations = b.relocations;
-    }
+as_pinned b = record b { setting = Pinned }
 
 -- section s is pinned
 abbrev pub pin : ℕ → Graph → Graph
-pin s g = record { sections = rebuilt (λ t b. cond (t == s) (option_map as_pinned b) b) g; roots = g.roots }
+pin s g = record g { sections = rebuilt (λ t b. cond (t == s) (option_map as_pinned b) b) g }
 
 -- section s is added at the end of the roots
 abbrev pub root : ℕ → Graph → Graph
-root s g = record { sections = g.sections; roots = g.roots ++ s ∷ [] }
+root s g = record g { roots = g.roots ++ s ∷ [] }
 
 -- what a call that is not refused does to the drawn graph, which a sweep and a fold leave alone
 abbrev pub drawn_by : Call → Graph → Graph

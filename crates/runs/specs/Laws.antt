@@ -43,14 +43,7 @@ pub record BindDoes (e s : ℕ) (g : Graph) : Type 0 where
   pub roots : (bind e s g).roots ≡ g.roots
 
 abbrev pub pinned_record : Record → Record
-pinned_record r =
-    record {
-      flags = r.flags;
-      alignment = r.alignment;
-      size = r.size;
-      relocations = r.relocations;
-      setting = Pinned;
-    }
+pinned_record r = record r { setting = Pinned }
 
 pub record PinDoes (s : ℕ) (g : Graph) : Type 0 where
   pub count : count_of (pin s g) ≡ count_of g

@@ -10,13 +10,7 @@ use Rattle.runs.specs.Drawn.{bound_target, bind, pin, root}
 -- a section whose targets are put where f has them, and which is pinned if p says so
 abbrev pub noted_body : (Target → Target) → Bool → Body → Body
 noted_body f p b =
-    record {
-      flags = b.flags;
-      alignment = b.alignment;
-      bytes = b.bytes;
-      setting = cond p Pinned b.setting;
-      relocations = map (aimed_at f) b.relocations;
-    }
+    record b { setting = cond p Pinned b.setting; relocations = map (aimed_at f) b.relocations }
 
 -- the graph below with targets put where f has them, the sections pinned that p has, and more roots
 abbrev pub noted : (Target → Target) → (ℕ → Bool) → List ℕ → Graph → Graph

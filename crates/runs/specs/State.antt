@@ -91,6 +91,12 @@ refusal st Fold = None
 abbrev pub slot_of : List Slot → ℕ → Slot
 slot_of slots s = slice_index_or slots s Untouched
 
+-- nothing happened to the section
+abbrev pub untouched : Slot → Bool
+untouched Untouched = true
+untouched (Folded t) = false
+untouched Swept = false
+
 -- the slots of the first n sections made anew, each by its number and what it was
 abbrev pub slots_by : (ℕ → Slot → Slot) → ℕ → List Slot → List Slot
 slots_by f n slots = table (λ s. f s (slot_of slots s)) n ++ drop n slots
@@ -108,48 +114,19 @@ folded_slot g s old = cond (present g s && not (rep g s == s)) (Folded (rep g s)
 -- what a call that is not refused does
 abbrev pub moved : State → Call → State
 moved st (Bind e s) =
-    record {
-      drawn = bind e s st.drawn;
-      graph = bind e s st.graph;
-      slots = st.slots;
-      bound = st.bound ++ e ∷ [];
-      added = st.added;
-      closed = st.closed;
-    }
-moved st (Pin s) =
-    record {
-      drawn = pin s st.drawn;
-      graph = pin s st.graph;
-      slots = st.slots;
-      bound = st.bound;
-      added = st.added;
-      closed = st.closed;
-    }
-moved st (Root s) =
-    record {
-      drawn = root s st.drawn;
-      graph = root s st.graph;
-      slots = st.slots;
-      bound = st.bound;
-      added = suc st.added;
-      closed = st.closed;
-    }
+    record st { drawn = bind e s st.drawn; graph = bind e s st.graph; bound = st.bound ++ e ∷ [] }
+moved st (Pin s) = record st { drawn = pin s st.drawn; graph = pin s st.graph }
+moved st (Root s) = record st { drawn = root s st.drawn; graph = root s st.graph; added = suc st.added }
 moved st Sweep =
-    record {
-      drawn = st.drawn;
+    record st {
       graph = swept st.graph;
       slots = slots_by (swept_slot st.graph) (count_of st.graph) st.slots;
-      bound = st.bound;
-      added = st.added;
       closed = true;
     }
 moved st Fold =
-    record {
-      drawn = st.drawn;
+    record st {
       graph = folded st.graph;
       slots = slots_by (folded_slot st.graph) (count_of st.graph) st.slots;
-      bound = st.bound;
-      added = st.added;
       closed = true;
     }
 

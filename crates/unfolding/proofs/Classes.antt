@@ -1,7 +1,7 @@
 -- The lowest section of each group at a depth; a depth not above the count is stable; rounds.
 use Rattle.std.proofs.Common.{◌≡◌, ℕ, suc, ◌<◌, ◌≤◌, Bool, true, false, ◌&&◌, eqb, Decides, sym, refl, ap, ◌∙◌, ⊎_elim, arith}
 use Rattle.std.proofs.lemmas.Bool.{cases_Bool, cond-true, cond-false, eq-eqb, eqb-true, and_parts, and_from}
-use Rattle.std.proofs.lemmas.Bool.Decides.{Decides-and, Decides-like}
+use Rattle.std.proofs.lemmas.Bool.Decides.{Decides-and, Decides-like, same_from_decides}
 use Rattle.model.specs.Graph.{Graph, count_of}
 use Rattle.steps.specs.Below.{all_below, least_below}
 use Rattle.steps.proofs.Below.{all_decides, least_passes, least_least}
@@ -166,21 +166,16 @@ module _ {M F : Type 0} (T : Telling M F) (L : Lawful T) (g : Graph) where
             (λ a. (agrees_decides T L k g s g t).0 (same ∙ (agrees_decides T L (suc k) g s g t).1 a)),
           )
 
-      tests : (a b : Bool) → (a ≡ true → b ≡ true) → (b ≡ true → a ≡ true) → a ≡ b
-      tests true b f h = sym (f refl)
-      tests false true f h = h refl
-      tests false false f h = refl
-
       back : (a : Bool) → foldable g s ≡ a → (b : Bool) → foldable g t ≡ b → StablePair k s t → stable_pair T g k s t ≡ true
       back true p true q c =
           let both = c p q in
           rw (p, q)
           (same_test_from (agrees_by T k g s g t) (agrees_by T (suc k) g s g t)
-          (tests
+          (same_from_decides
           (agrees_by T k g s g t)
           (agrees_by T (suc k) g s g t)
-          (λ e. (agrees_decides T L (suc k) g s g t).1 (both.0 ((agrees_decides T L k g s g t).0 e)))
-          (λ e. (agrees_decides T L k g s g t).1 (both.1 ((agrees_decides T L (suc k) g s g t).0 e)))))
+          (agrees_decides T L k g s g t)
+          (Decides-like (agrees_by T (suc k) g s g t) both.1 both.0 (agrees_decides T L (suc k) g s g t))))
       back true p false q c = rw (p, q)
       back false p b q c = rw p
 
@@ -216,10 +211,6 @@ module _ {M F : Type 0} (T : Telling M F) (L : Lawful T) (g : Graph) where
       (stable_decides (rounds_by T g)).0 (least_passes (stable_by T g) (count_of g) ((stable_decides (count_of g)).1 count_stable))
 
   -- the representative
-
-  pub rep_class : (s : ℕ) → rep_by T g s ≡ class_by T g (count_of g) s
-  unfolding rep_by
-  rep_class s = refl
 
   -- at any stable depth the class is the representative
   pub class_rep : (k s : ℕ) → StableBy T g k → class_by T g k s ≡ rep_by T g s

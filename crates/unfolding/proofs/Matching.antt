@@ -1,14 +1,16 @@
 -- Alike sections match, and matching sections are alike.
-use Rattle.std.proofs.Common.{◌≡◌, ℕ, zero, suc, true, false, List, [], ◌∷◌, map, length, is_some, Some, None, Option, sym, refl, ap, ◌∙◌}
+use Rattle.std.proofs.Common.{◌≡◌, ℕ, zero, suc, true, false, List, [], ◌∷◌, map, length, is_some, Some, None, Option, unwrap_or, sym, refl, ap, ◌∙◌}
 use Rattle.std.specs.Option.{option_map}
 use Rattle.std.specs.List.{slice_get}
+use Rattle.std.proofs.lemmas.List.{ext_get_or}
+use Rattle.std.proofs.lemmas.Option.{unwrap_or-slice_get}
 use Rattle.model.specs.declared.Setting.{Setting}
 use Rattle.model.specs.declared.Setting.TheVariants.{Foldable, Pinned}
 use Rattle.model.specs.declared.Target.{Target}
 use Rattle.model.specs.declared.Target.TheVariants.{Section, Outside}
 use Rattle.model.specs.declared.Relocation.{Relocation}
 use Rattle.model.specs.declared.Record.{Record}
-use Rattle.model.specs.Graph.{Body, section_of, told_record, told_byte, told_relocation}
+use Rattle.model.specs.Graph.{Body, section_of, record_in, told_record, told_byte, told_relocation}
 use Rattle.unfolding.specs.Depth.{Link, unfolding_at}
 use Rattle.unfolding.specs.Telling.{told_target, arm, arms_in, setting_in, look}
 use Rattle.unfolding.specs.Groups.{may_fold}
@@ -120,19 +122,9 @@ alike_matches g s h t alike =
 
 -- the other way
 
-same_nth : {X : Type 0} (xs ys : List X) → ((i : ℕ) → slice_get xs i ≡ slice_get ys i) → xs ≡ ys
-same_nth [] [] h = refl
-same_nth [] (y ∷ ys) h =
-    let z = h 0 in
-    cc
-same_nth (x ∷ xs) [] h =
-    let z = h 0 in
-    cc
-same_nth (x ∷ xs) (y ∷ ys) h =
-    let first = h 0 in
-    let heads : x ≡ y = cc in
-    let tails = same_nth xs ys (λ i. h (suc i)) in
-    λ i. heads i ∷ tails i
+-- two present sections with one record
+one_record : (x y : Body) → told_record (Some x) ≡ told_record (Some y) → record_in x ≡ record_in y
+one_record x y e = cc
 
 module _ (R Q : ℕ → ℕ → Type 0) (keeps : (x y : ℕ) → R x y → Q x y) where
   aims_told : (a b : Target) → Aims R a b → ToldRel Q (told_target a) (told_target b)
@@ -170,12 +162,8 @@ same_mark s t None (Some y) n e = cc
 same_mark s t (Some x) None n e = cc
 same_mark s t (Some x) (Some y) n e = go x.setting refl y.setting refl
   where
-    fields : (q : Option Record) → Setting
-    fields None = Foldable
-    fields (Some r) = r.setting
-
     settings : x.setting ≡ y.setting
-    settings = ap fields e
+    settings = ap (λ (r : Record). r.setting) (one_record x y e)
 
     go : (a : Setting) → x.setting ≡ a → (b : Setting) → y.setting ≡ b → mark_of s (Some x.setting) ≡ mark_of t (Some y.setting)
     go Foldable p Foldable q = rw (p, q)
@@ -195,18 +183,11 @@ same_face None None e h = refl
 same_face None (Some y) e h = cc
 same_face (Some x) None e h = cc
 same_face (Some x) (Some y) e h =
-    let flags : x.flags ≡ y.flags = ap flags_of e in
-    let alignment : x.alignment ≡ y.alignment = ap alignment_of e in
-    let bytes = same_nth x.bytes y.bytes h in
-    λ i. record { flags = flags i; alignment = alignment i; bytes = bytes i }
-  where
-    flags_of : Option Record → ℕ
-    flags_of None = 0
-    flags_of (Some r) = r.flags
-
-    alignment_of : Option Record → ℕ
-    alignment_of None = 0
-    alignment_of (Some r) = r.alignment
+    let same = one_record x y e in
+    let bytes =
+    ext_get_or 0 x.bytes y.bytes (ap (λ (r : Record). r.size) same)
+    (λ i _. sym (unwrap_or-slice_get x.bytes i 0) ∙ (ap (λ (o : Option ℕ). unwrap_or o 0) (h i) ∙ unwrap_or-slice_get y.bytes i 0)) in
+    λ i. record { flags = (same i).flags; alignment = (same i).alignment; bytes = bytes i }
 
 pub matching_alike : MatchingAlike
 unfolding rules

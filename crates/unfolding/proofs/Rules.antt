@@ -19,7 +19,7 @@ mark_decides absent (pinned t) = (λ e. cc, λ e. cc)
 mark_decides absent foldable = (λ e. cc, λ e. cc)
 mark_decides absent absent = (λ e. refl, λ e. refl)
 
-face_decides : (x y : Face) → Decides (same_face x y) (x ≡ y)
+pub face_decides : (x y : Face) → Decides (same_face x y) (x ≡ y)
 face_decides x y =
     decides_both
     (eqb x.flags y.flags)

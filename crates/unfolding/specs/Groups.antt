@@ -70,7 +70,7 @@ ApartBy T g = (s t : ℕ) → Present g s → Present g t → AlikeBy T g s g t 
 -- relocations with their targets put elsewhere
 
 abbrev pub aimed_at : (Target → Target) → Relocation → Relocation
-aimed_at f r = record { offset = r.offset; kind = r.kind; target = f r.target; displacement = r.displacement }
+aimed_at f r = record r { target = f r.target }
 
 abbrev pub aimed : (Target → Target) → Body → Body
 aimed f b = with_relocations b (map (aimed_at f) b.relocations)

@@ -56,7 +56,7 @@ abbrev pub swept_section : Graph → ℕ → Option Body → Option Body
 swept_section g s b = cond (reached g s) b None
 
 abbrev pub swept : Graph → Graph
-swept g = record { sections = rebuilt (swept_section g) g; roots = g.roots }
+swept g = record g { sections = rebuilt (swept_section g) g }
 
 -- how many sections the sweep makes absent
 abbrev pub dropped : Graph → ℕ

@@ -61,8 +61,7 @@ agrees_by T k g s h t =
 
 -- a section with other relocations
 abbrev pub with_relocations : Body → List Relocation → Body
-with_relocations b rs =
-    record { flags = b.flags; alignment = b.alignment; bytes = b.bytes; setting = b.setting; relocations = rs }
+with_relocations b rs = record b { relocations = rs }
 
 -- what two sections with equal marks have in common: both are absent, both are foldable, or they are one pinned section
 abbrev pub Marked : ℕ → Option Setting → ℕ → Option Setting → Type 0
