@@ -138,8 +138,8 @@ pub fn gather(n: Number, x: u8, first: u64) -> Result<ControlFlow<Number, Number
     }
 }
 
-// The ULEB128 number that `bytes` begin with; their first has the place `first`. A loop: each byte may end it, refuse it or go on, and
-// the closure of a `try_fold` would need the same three arms and the fold two more.
+// The ULEB128 number that `bytes` begin with; their first has the place `first`.
+// A loop: each byte may end it, refuse it or go on; the closure of a `try_fold` has the same three arms, and two more come after it.
 pub fn uleb(bytes: &[u8], first: u64) -> Result<Number, Fault>
     ensures { result ≡ number_at bytes.now first }
 {
