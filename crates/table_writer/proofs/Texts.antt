@@ -1,21 +1,20 @@
 -- The parts of a table's text, one row or one section after another.
-use Rattle.std.proofs.Common.{◌≡◌, ℕ, zero, suc, ◌+◌, ◌-◌, ◌*◌, ◌<◌, ◌≤◌, min, unwrap_or, ◌⊎◌, List, [], ◌∷◌, ◌++◌, length, get_or, take, drop, pos, Some, None, Option, sym, refl, ap, subst, ◌∙◌, inl, inr, append_assoc, add-one, arith}
+use Rattle.std.proofs.Common.{◌≡◌, ℕ, zero, suc, ◌+◌, ◌-◌, ◌*◌, ◌<◌, ◌≤◌, min, unwrap_or, ◌⊎◌, List, [], ◌∷◌, ◌++◌, length, get_or, take, drop, Some, None, Option, sym, refl, ap, subst, ◌∙◌, inl, inr, append_assoc, add-one, arith}
 use Rattle.std.specs.Array.{IsElementAt, IsFromFnResultFrom}
 use Rattle.std.specs.Fn.{Called, Mut}
 use Rattle.std.specs.Int.{div_ceil}
 use Rattle.std.specs.List.{flat_map, slice_get}
 use Rattle.std.proofs.lemmas.List.{append-nil, get_or-take, get_or-drop, drop_more, drop_all, drop-drop, length-take, length-drop}
 use Rattle.std.proofs.lemmas.Grind.{same_number_lists, flat_map-append}
-use Rattle.std.proofs.lemmas.Option.{slice_get-get_or, get_or_from_slice_get}
+use Rattle.std.proofs.lemmas.Option.{slice_get-get_or}
 use Rattle.std.proofs.lemmas.Bool.{cases_lt}
 use Rattle.model.specs.declared.Record.{Record}
 use Rattle.model.specs.declared.Relocation.{Relocation}
-use Rattle.model.specs.declared.Target.TheVariants.{Outside}
 use Rattle.model.specs.Graph.{Body, Graph, record_in, told_record, told_relocation}
 use Rattle.row.specs.Entry.{Entry, header, section, bytes, relocation, root, end, render}
 use Rattle.layout.specs.Layout.{with_bytes, with_relocations, with_section, with_sections, with_roots, present_count, text_of}
 use Rattle.layout.proofs.Only.{with_bytes_some}
-use Rattle.graph.proofs.Told.{relocation_nth}
+use Rattle.graph.proofs.Places.{drop_nth, nth_none}
 use Rattle.graph.specs.Bytes.{bytes_in, relocations_in}
 use Rattle.table_writer.specs.Texts.{byte_row, relocation_row, root_row, bytes_text, relocations_text, section_text, sections_text, roots_text}
 use Rattle.table_writer.specs.Writes.{pieces}
@@ -70,33 +69,27 @@ bytes_all : (bs : List ℕ) (from : ℕ) → length bs ≤ from → bytes_text (
 unfolding bytes_text
 bytes_all bs from h = ap (λ ys. flat_map render (with_bytes (length ys) ys [])) (drop_all from bs h)
 
--- the relocations and the roots
+-- the relocations and the roots: one row for each
 
-relocations_more : (rs : List Relocation) (j : ℕ) (r : Relocation)
-    → j < length rs
-    → slice_get rs j ≡ Some r
-    → relocations_text (drop j rs) ≡ render (relocation r) ++ relocations_text (drop (j + 1) rs)
+relocations_flat : (rs : List Relocation) → flat_map (λ r. render (relocation r)) rs ≡ relocations_text rs
 unfolding relocations_text
-relocations_more rs j r low e =
-    ap (λ xs. flat_map render (with_relocations xs [])) (drop_more rs j r low)
-    ∙ ap (λ x. render (relocation x) ++ flat_map render (with_relocations (drop (j + 1) rs) [])) (get_or_from_slice_get rs j r r e)
+relocations_flat [] = refl
+relocations_flat (r ∷ rs) = ap (λ t. render (relocation r) ++ t) (relocations_flat rs)
 
-relocations_all : (rs : List Relocation) (j : ℕ) → length rs ≤ j → relocations_text (drop j rs) ≡ []
-unfolding relocations_text
-relocations_all rs j h = ap (λ xs. flat_map render (with_relocations xs [])) (drop_all j rs h)
-
-roots_more : (ts : List ℕ) (j t : ℕ)
-    → j < length ts
-    → slice_get ts j ≡ Some t
-    → roots_text (drop j ts) ≡ render (root t) ++ roots_text (drop (j + 1) ts)
+roots_flat : (ts : List ℕ) → flat_map (λ t. render (root t)) ts ≡ roots_text ts
 unfolding roots_text
-roots_more ts j t low e =
-    ap (λ xs. flat_map render (with_roots xs [])) (drop_more ts j t low)
-    ∙ ap (λ x. render (root x) ++ flat_map render (with_roots (drop (j + 1) ts) [])) (get_or_from_slice_get ts j t t e)
+roots_flat [] = refl
+roots_flat (t ∷ ts) = ap (λ x. render (root t) ++ x) (roots_flat ts)
 
-roots_all : (ts : List ℕ) (j : ℕ) → length ts ≤ j → roots_text (drop j ts) ≡ []
-unfolding roots_text
-roots_all ts j h = ap (λ xs. flat_map render (with_roots xs [])) (drop_all j ts h)
+rows_pieces : {X : Type 0} (row : Option X → List ℕ) (xs : List X) → pieces (λ j. row (slice_get xs j)) (length xs) ≡ flat_map (λ x. row (Some x)) xs
+rows_pieces {X} row xs =
+    in_pieces (λ j. row (slice_get xs j)) (λ j. flat_map (λ x. row (Some x)) (drop j xs)) (length xs) (λ j low. go j low (slice_get xs j) refl)
+    (ap (flat_map (λ x. row (Some x))) (drop_all (length xs) xs (omega arith)))
+  where
+    go : (j : ℕ) → j < length xs → (o : Option X) → slice_get xs j ≡ o
+        → flat_map (λ x. row (Some x)) (drop j xs) ≡ row o ++ flat_map (λ x. row (Some x)) (drop (j + 1) xs)
+    go j low None e = absurd (omega (arith, nth_none xs j e))
+    go j low (Some x) e = ap (flat_map (λ y. row (Some y))) (drop_nth xs j x e)
 
 -- one section
 
@@ -183,25 +176,11 @@ bytes_pieces bs n e =
     (bytes_all bs (16 * n) (omega arith))
 
 pub relocations_pieces : (o : Option Body) → pieces (λ j. relocation_row (told_relocation o j)) (length (relocations_in o)) ≡ relocations_text (relocations_in o)
-relocations_pieces o =
-    in_pieces (λ j. relocation_row (told_relocation o j)) (λ j. relocations_text (drop j rs)) (length rs)
-    (λ j low. relocations_more rs j (get_or rs j unset) low (found j low) ∙ ap (λ r. relocation_row r ++ relocations_text (drop (j + 1) rs)) (sym (relocation_nth o j ∙ found j low)))
-    (relocations_all rs (length rs) (omega arith))
-  where
-    rs : List Relocation
-    rs = relocations_in o
-
-    unset : Relocation
-    unset = record { offset = 0; kind = 0; target = Outside 0; displacement = pos 0 }
-
-    found : (j : ℕ) → j < length (relocations_in o) → slice_get (relocations_in o) j ≡ Some (get_or (relocations_in o) j unset)
-    found j low = slice_get-get_or (relocations_in o) j unset low
+relocations_pieces None = relocations_flat []
+relocations_pieces (Some b) = rows_pieces relocation_row b.relocations ∙ relocations_flat b.relocations
 
 pub roots_pieces : (ts : List ℕ) → pieces (λ j. root_row (slice_get ts j)) (length ts) ≡ roots_text ts
-roots_pieces ts =
-    in_pieces (λ j. root_row (slice_get ts j)) (λ j. roots_text (drop j ts)) (length ts)
-    (λ j low. roots_more ts j (get_or ts j 0) low (slice_get-get_or ts j 0 low) ∙ ap (λ o. root_row o ++ roots_text (drop (j + 1) ts)) (sym (slice_get-get_or ts j 0 low)))
-    (roots_all ts (length ts) (omega arith))
+roots_pieces ts = rows_pieces root_row ts ∙ roots_flat ts
 
 pub sections_pieces : (bs : List (Option Body)) → pieces (λ s. section_text s (get_or bs s None)) (length bs) ≡ sections_text 0 bs
 sections_pieces bs =
