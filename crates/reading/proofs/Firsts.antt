@@ -1,11 +1,10 @@
 -- The first number that passes.
-use Rattle.std.proofs.Common.{◌≡◌, ℕ, zero, suc, ◌+◌, ◌<◌, ◌≤◌, Bool, true, false, not, ◌||◌, eqb, leb, List, [], ◌∷◌, length, Some, None, Option, sym, refl, ◌∙◌, add-one, arith}
+use Rattle.std.proofs.Common.{◌≡◌, ℕ, zero, suc, ◌+◌, ◌<◌, ◌≤◌, Bool, true, false, not, ◌||◌, eqb, leb, List, [], ◌∷◌, length, Some, None, Option, sym, refl, ◌∙◌, arith}
 use Rattle.std.proofs.lemmas.Bool.{eqb-true, ne_eqb, leb-true, and_parts, or_from}
 use Rattle.checklist.specs.Checks.{first_fault, each, all_hold, where_holds}
 use Rattle.checklist.proofs.Checks.{accepts, hold_each}
-use Rattle.elf.specs.declared.Header.{Header}
 use Rattle.elf.specs.Layout.{place, section, sections}
-use Rattle.rules.specs.Rules.{earlier, first_where, of_kind, only_checks, only_rule, the_only, extent_rule, check, cut_at}
+use Rattle.rules.specs.Rules.{earlier, first_where, of_kind, the_only, extent_rule, check, cut_at}
 
 pub first_where_is : (f : ℕ → Bool) (n i : ℕ) → first_where f n ≡ Some i → (i < n) × (f i ≡ true)
 first_where_is f zero i e = let z : ◌≡◌ {A = ℕ} 0 1 = cc in absurd (omega arith)
@@ -16,12 +15,6 @@ first_where_is f (suc n) i e = go (first_where f n) refl (f n) refl e (first_whe
     go None q true h e' ih = let same : n ≡ i = cc in (omega arith, rw same at h)
     go None q false h e' ih = let z : ◌≡◌ {A = ℕ} 0 1 = cc in absurd (omega arith)
     go (Some j) q t h e' ih = let r = ih (q ∙ e') in (omega (arith, r.0), r.1)
-
--- one section in the search for the section of a type
-pub only_turn : (k : ℕ) (b : List ℕ) (i p : ℕ) (h : Header) (found : Option ℕ) → p ≡ place b i → h ≡ section b i
-    → found ≡ first_where (of_kind k b) i
-    → (only_checks k p h found ≡ only_rule k b i) × (earlier found (eqb h.kind k) i ≡ first_where (of_kind k b) (i + 1))
-only_turn k b i p h found q s f = (rw (q, s, f), rw (add-one i, s, f))
 
 -- the section of a type is one, and what the file holds of it ends within
 pub only_is : (k : ℕ) (b : List ℕ) (t : ℕ) → Some t ≡ the_only k b → (t < sections b) × ((section b t).kind ≡ k)

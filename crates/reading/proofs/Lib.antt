@@ -1,3 +1,4 @@
+pub mod Walk
 pub mod Sections
 pub mod Firsts
 pub mod Parting

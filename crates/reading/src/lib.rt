@@ -58,11 +58,7 @@ fn every_section<F: Fn(Placed) -> Result<(), Fault>>(headers: Headers, rule: F) 
 fn only(headers: Headers, kind: u32) -> Result<Option<u16>, Fault>
     ensures { result ≡ answer (first_fault (each (only_rule kind headers.entry.bytes.now) (sections headers.entry.bytes.now))) (the_only kind headers.entry.bytes.now) }
 {
-    let mut found = None;
-    for i in 0..headers.count {
-        found = headers.placed(i).only_step(kind, i, found)?;
-    }
-    Ok(found)
+    (0..headers.count).try_fold(None, |found, i| headers.placed(i).only_step(kind, i, found))
 }
 
 // The symbols, which start at `from`.
@@ -70,10 +66,7 @@ fn every_symbol(headers: Headers, from: u64, count: u32) -> Result<(), Fault>
     requires { from + 24 * count ≤ length headers.bytes.now }
     ensures { result ≡ answer (first_fault (each (symbol_rule headers.entry.bytes.now from) count)) tt }
 {
-    for j in 0..count {
-        headers.symbol_at(from + 24 * j as u64)?;
-    }
-    Ok(())
+    (0..count).try_for_each(|j| headers.symbol_at(from + 24 * u64::from(j)))
 }
 
 // The symbol table, which is section `t`.
