@@ -2,20 +2,17 @@
 
 #![tactic(auto)]
 
-ghost use Rattle.std.specs.Prelude.{◌≡◌, length, IfOk, IfErr};
-ghost use Rattle.row_writer.specs.Writing.{fault_row};
+ghost use Rattle.std.specs.Prelude.{◌≡◌, IfOk, IfErr};
 ghost use Rattle.layout.specs.Layout.{text_of};
 ghost use Rattle.table.specs.Meaning.{graph_held};
 ghost use Rattle.refolding.specs.Printed.{too_long, refolded, IsFaultRow, IsTable, IsRefusal};
 
 use calls::Call;
 use fault::{Fault, Kind, Layer};
-use graph::SectionGraph;
 use pile::run;
-use row_writer::write_fault;
 use std::alloc::{AllocError, Global};
 use table::Table;
-use table_writer::{table_length, write_table};
+use texts::{fault_text, table_text};
 
 // Why no table is answered.
 #[derive(Drop)]
@@ -41,36 +38,6 @@ fn too_long() -> Fault
     ensures { result ≡ too_long }
 {
     Fault::new(Kind::Oversize, 65536, Layer::Output)
-}
-
-// How long the row of a refusal is: a buffer with no room is refused with the length needed.
-fn row_length(fault: &Fault) -> usize
-    ensures { result ≡ length (fault_row fault.now) }
-{
-    write_fault(fault, &mut []).unwrap_or_else(|small| small.place as usize)
-}
-
-// This text and the next stay two functions: one over the writer needs a clause on what a call of a closure leaves in a buffer, and a
-// definition for it, which is longer than the line that each would save.
-
-// The row of a refusal.
-#[tactic(auto, using(row_writer::proofs::Puts::wrote_fits, crate::proofs::Filling::filled))]
-fn fault_text(heap: Global, fault: &Fault) -> Result<Vec<u8>, AllocError>
-    ensures { IfOk result (λ v. v.items ≡ fault_row fault.now) }
-{
-    let mut text = vec![in heap; 0u8; row_length(fault)]?;
-    write_fault(fault, text.as_mut_slice()).unwrap();
-    Ok(text)
-}
-
-// The table of a section graph.
-#[tactic(auto, using(row_writer::proofs::Puts::wrote_fits, crate::proofs::Filling::filled))]
-fn table_text<G: SectionGraph>(heap: Global, graph: &G) -> Result<Vec<u8>, AllocError>
-    ensures { IfOk result (λ v. v.items ≡ text_of (G.SectionGraph.graph graph.now)) }
-{
-    let mut text = vec![in heap; 0u8; table_length(graph)]?;
-    write_table(graph, text.as_mut_slice()).unwrap();
-    Ok(text)
 }
 
 // What is answered of a text that is refused.

@@ -3,18 +3,17 @@
 
 #![tactic(auto)]
 
-use graph::SectionGraph;
-use std::alloc::Global;
+use std::alloc::{AllocError, Global};
 use std::fs;
 use std::io::Write;
 use table::Table;
-use table_writer::{table_length, write_table};
+use table_writer::table_length;
+use texts::table_text;
 
 // Whether the table that was read is written again as it was.
-fn comes_back(heap: Global, table: &Table) -> anyhow::Result<bool> {
-    let mut again = vec![in heap; 0u8; table_length(table)]?;
-    let written = write_table(table, again.as_mut_slice());
-    Ok(written.is_ok() && again.as_slice() == table.text())
+fn comes_back(heap: Global, table: &Table) -> Result<bool, AllocError> {
+    let again = table_text(heap, table)?;
+    Ok(again.as_slice() == table.text())
 }
 
 // One case: whether it was accepted.

@@ -2,11 +2,11 @@
 use crate::graphs::{describe, is_object, load};
 use crate::input::{read_object, read_table};
 use crate::options::Options;
-use crate::output::table_text;
 use anyhow::ensure;
 use graph::SectionGraph;
 use table::Table;
 use table_writer::table_length;
+use texts::table_text;
 
 fn tell<G: SectionGraph>(rt: &HostRuntime, kind: &str, graph: &G) -> anyhow::Result<()> {
     let description = describe(rt.alloc(), graph)?;
@@ -15,7 +15,7 @@ fn tell<G: SectionGraph>(rt: &HostRuntime, kind: &str, graph: &G) -> anyhow::Res
 }
 
 fn compare(rt: &HostRuntime, table: &Table) -> anyhow::Result<()> {
-    let again = table_text(rt, table)?;
+    let again = table_text(rt.alloc(), table)?;
     ensure!(
         again.as_slice() == table.text(),
         "written again, the table is another"

@@ -1,11 +1,10 @@
 // Writing a section table to where it goes.
 use crate::graphs::{Description, describe};
 use crate::options::Options;
-use crate::refusal::or_row;
 use graph::SectionGraph;
 use std::fs;
 use std::io::Write;
-use table_writer::{table_length, write_table};
+use texts::table_text;
 
 fn send(rt: &HostRuntime, options: &Options, text: &[u8], said: Description) -> anyhow::Result<()> {
     match &options.output {
@@ -21,13 +20,6 @@ fn send(rt: &HostRuntime, options: &Options, text: &[u8], said: Description) -> 
     Ok(())
 }
 
-// The table of a section graph.
-pub fn table_text<G: SectionGraph>(rt: &HostRuntime, graph: &G) -> anyhow::Result<Vec<u8>> {
-    let mut text = vec![in rt.alloc(); 0u8; table_length(graph)]?;
-    or_row(rt, write_table(graph, text.as_mut_slice()))?;
-    Ok(text)
-}
-
 // The table of a section graph goes out, and what it holds is said.
 pub fn write_out<G: SectionGraph>(
     rt: &HostRuntime,
@@ -35,5 +27,5 @@ pub fn write_out<G: SectionGraph>(
     options: &Options,
 ) -> anyhow::Result<()> {
     let said = describe(rt.alloc(), graph)?;
-    send(rt, options, table_text(rt, graph)?.as_slice(), said)
+    send(rt, options, table_text(rt.alloc(), graph)?.as_slice(), said)
 }

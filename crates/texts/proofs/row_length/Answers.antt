@@ -2,8 +2,8 @@ use Rattle.std.proofs.Common.{◌≡◌, rules}
 use Rattle.std.specs.Prelude.{MatchResult}
 use Rattle.std.proofs.lemmas.Grind.{common_steps}
 use Rattle.row_writer.specs.Writing.{fault_row}
-use Rattle.refolding.proofs.Filling.{wrote_either}
-use Rattle.refolding.proofs.row_length.Goals as goal
+use Rattle.texts.proofs.Filling.{wrote_either}
+use Rattle.texts.proofs.row_length.Goals as goal
 
 pub returns : goal.returns
 returns c =
