@@ -49,7 +49,7 @@ pub enum Layer {
 
 // A refusal. It goes up to the caller unchanged.
 #[derive(Clone, Copy, PartialEq, Eq, Debug, Error)]
-#[error("refused with {} at byte {place}, layer {}: {kind}", u8::from(*.kind), u8::from(*.layer))]
+#[error("refused with {} at {place}, layer {}: {kind}", u8::from(*.kind), u8::from(*.layer))]
 pub struct Fault {
     pub kind: Kind,
     pub place: u64,

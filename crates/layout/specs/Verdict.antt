@@ -1,6 +1,6 @@
 -- What the verdict on a text says in terms of section graphs and their tables.
-use Rattle.std.specs.Prelude.{◌≡◌, ℕ, suc, ◌<◌, ◌≤◌, true, false, List, [], take, Some, None, ◌≢◌, slice_index_or}
-use Rattle.model.specs.Graph.{Graph}
+use Rattle.std.specs.Prelude.{◌≡◌, ℕ, suc, ◌<◌, ◌≤◌, true, false, List, [], length, take, Some, None, ◌≢◌, slice_index_or}
+use Rattle.model.specs.Graph.{Graph, empty}
 use Rattle.model.specs.Laws.{Valid}
 use Rattle.lines.specs.Lines.{lines, row_start}
 use Rattle.row.specs.Reading.{read_row}
@@ -26,3 +26,7 @@ pub record Verdict (t : List ℕ) : Type 0 where
 -- graphs with the same table are the same
 abbrev pub ToldApart : Type 0
 ToldApart = (g h : Graph) → Valid g → Valid h → text_of g ≡ text_of h → g ≡ h
+
+-- the table of the empty graph has 40 bytes
+abbrev pub EmptyTable : Type 0
+EmptyTable = length (text_of empty) ≡ 40

@@ -7,7 +7,7 @@ ghost use Rattle.row.specs.Entry.{section, relocation, root, end};
 ghost use Rattle.row.specs.Told.{told};
 ghost use Rattle.layout.specs.Layout.{bytes_length, relocation_place};
 ghost use Rattle.layout.specs.Order.{step, step_start, step_open, opened, settled, after_bytes, is_done};
-ghost use Rattle.layout.specs.Verdict.{ToldApart};
+ghost use Rattle.layout.specs.Verdict.{ToldApart, EmptyTable};
 
 use model::{Record, Relocation};
 use row::Row;
@@ -205,4 +205,9 @@ pub fn relocation_place(size: u16, j: u16) -> usize
 // Graphs with the same table are the same.
 pub fn tables_differ()
     ensures { ToldApart }
+{}
+
+// The table of the empty graph has 40 bytes.
+pub fn empty_table()
+    ensures { EmptyTable }
 {}

@@ -124,12 +124,13 @@ pub length_needed : {X : Type 0} (c w : ℕ) (v : X → ℤ) (cells : List X) (n
 length_needed c w v cells n e = omega (arith, e, length_by_sum w v cells, length_row c (columns w (map v cells)))
 
 pub row_filled : (c : ℕ) (cols b last : List ℕ) (stop : ℕ)
-    → length cols + 2 ≤ length b
+    → length (c ∷ (cols ++ 10 ∷ [])) ≤ length b
     → last ≡ over cols (take (length b - 1) (drop 1 b))
     → stop ≡ length cols
     → set (set (put_mid 1 (length b - 1) b last) 0 c) (1 + stop) 10 ≡ over (c ∷ (cols ++ 10 ∷ [])) b
-row_filled c cols [] last stop room el es = absurd (omega arith)
-row_filled c cols (x ∷ xs) last stop room el es =
+row_filled c cols [] last stop room el es = absurd (omega (arith, length_row c cols))
+row_filled c cols (x ∷ xs) last stop wide el es =
+    let room : length cols + 2 ≤ suc (length xs) = omega (arith, length_row c cols, wide) in
     let short : suc (length xs) - 1 ≡ length xs = omega arith in
     let part : take (suc (length xs) - 1) xs ≡ xs = take_all (suc (length xs) - 1) xs (omega arith) in
     let none : drop (suc (length xs) - 1) xs ≡ [] = drop_all (suc (length xs) - 1) xs (omega arith) in

@@ -26,8 +26,8 @@ pub enum Number {
 impl From<u8> for Number {
     ghost from_gives = { λ n r. r ≡ Natural n };
 
-    fn from(n: u8) -> Number {
-        Number::Natural(u64::from(n))
+    fn from(byte: u8) -> Number {
+        Number::Natural(u64::from(byte))
     }
 }
 
@@ -42,16 +42,16 @@ impl From<u16> for Number {
 impl From<u32> for Number {
     ghost from_gives = { λ n r. r ≡ Natural n };
 
-    fn from(n: u32) -> Number {
-        Number::Natural(u64::from(n))
+    fn from(word: u32) -> Number {
+        Number::Natural(u64::from(word))
     }
 }
 
 impl From<u64> for Number {
     ghost from_gives = { λ n r. r ≡ Natural n };
 
-    fn from(n: u64) -> Number {
-        Number::Natural(n)
+    fn from(long: u64) -> Number {
+        Number::Natural(long)
     }
 }
 
@@ -151,6 +151,7 @@ fn write_columns<T: Cell>(cells: &[T], out: &mut [u8]) -> usize
 }
 
 // Writes a row over the front of a buffer that has room for it.
+#[tactic(auto, using(crate::proofs::Filled::row_filled))]
 fn fill_row<T: Cell>(letter: u8, cells: &[T], out: &mut [u8])
     requires { length (row_text letter T.due (map T.integer cells.now)) ≤ length out.old }
     ensures { out.new ≡ over (row_text letter T.due (map T.integer cells.now)) out.old }

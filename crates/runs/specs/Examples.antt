@@ -1,4 +1,5 @@
--- Worked examples of calls on a new pile: what they answer, and what the pile tells after them.
+-- The worked examples, all in one list: calls on a new pile, what they answer, and what the pile tells after them. (The examples of
+-- `unfolding` are further graphs, for the definitions of that crate alone.)
 use Rattle.std.specs.Prelude.{◌≡◌, ℕ, suc, List, [], ◌∷◌, ◌++◌, replicate, ℤ, pos, negsuc, Some, None, Ok, Err, Option, Result}
 use Rattle.std.specs.List.{AllByRecursion}
 use Rattle.fault.specs.declared.Fault.{Fault}
@@ -54,17 +55,23 @@ swept_away = Ok Swept
 abbrev pub past : ℕ → Result Place Fault
 past n = Err (no_section n)
 
--- a foldable section of one byte, one that differs in the byte, and a relocation to a section or an outside name
+-- a foldable section of one byte, ones that differ in the byte or in the alignment, and a relocation to a section or an outside name
+
+abbrev pub body : ℕ → ℕ → List Relocation → Option Body
+body alignment byte rs =
+    Some (record { flags = 6; alignment = alignment; bytes = byte ∷ []; setting = Foldable; relocations = rs })
 
 abbrev pub of_byte : ℕ → List Relocation → Option Body
-of_byte byte rs =
-    Some (record { flags = 6; alignment = 1; bytes = byte ∷ []; setting = Foldable; relocations = rs })
+of_byte byte rs = body 1 byte rs
 
 abbrev pub plain : List Relocation → Option Body
 plain rs = of_byte 195 rs
 
 abbrev pub other : Option Body
 other = of_byte 144 []
+
+abbrev pub aligned : ℕ → Option Body
+aligned alignment = body alignment 195 []
 
 abbrev pub aiming : Target → ℤ → List Relocation
 aiming target d = record { offset = 0; kind = 4; target = target; displacement = d } ∷ []
@@ -125,6 +132,44 @@ examples =
             roots = [];
             present = 0;
           };
+    } ∷
+    -- two alike that call themselves share
+    record {
+      below = unrooted (plain (calls 0) ∷ plain (calls 1) ∷ []);
+      calls = Fold ∷ [];
+      outcome =
+          record { answers = Merged 1 1 0 ∷ []; places = at 0 ∷ at 0 ∷ past 2 ∷ []; roots = []; present = 1 };
+    } ∷
+    -- a calls b, b calls a, c calls itself: all three share
+    record {
+      below = unrooted (plain (calls 1) ∷ plain (calls 0) ∷ plain (calls 2) ∷ []);
+      calls = Fold ∷ [];
+      outcome =
+          record {
+            answers = Merged 1 2 0 ∷ [];
+            places = at 0 ∷ at 0 ∷ at 0 ∷ past 3 ∷ [];
+            roots = [];
+            present = 1;
+          };
+    } ∷
+    -- a calls b, c calls d, and b and d differ in a byte: none share, which depth 2 is the first to tell
+    record {
+      below = unrooted (plain (calls 1) ∷ plain [] ∷ plain (calls 3) ∷ other ∷ []);
+      calls = Fold ∷ [];
+      outcome =
+          record {
+            answers = Merged 4 0 2 ∷ [];
+            places = at 0 ∷ at 1 ∷ at 2 ∷ at 3 ∷ past 4 ∷ [];
+            roots = [];
+            present = 4;
+          };
+    } ∷
+    -- two that differ in their alignment stay apart
+    record {
+      below = unrooted (aligned 4 ∷ aligned 16 ∷ []);
+      calls = Fold ∷ [];
+      outcome =
+          record { answers = Merged 2 0 1 ∷ []; places = at 0 ∷ at 1 ∷ past 2 ∷ []; roots = []; present = 2 };
     } ∷
     -- the sweep leaves 2, so the fold finds nothing
     record {

@@ -149,14 +149,15 @@ pub table_parts : (g : Graph) (n k present : ℕ)
     → n ≡ length g.sections
     → k ≡ length g.roots
     → present ≡ present_count g.sections
-    → ((render (header n k) ++ sections_text 0 g.sections) ++ roots_text g.roots) ++ render (end present) ≡ text_of g
+    → (render (header n k) ++ (sections_text 0 g.sections ++ roots_text g.roots)) ++ render (end present) ≡ text_of g
 unfolding sections_text roots_text
 table_parts g n k present en ek ep =
     let last : List Entry = end (present_count g.sections) ∷ [] in
     let body : List ℕ = flat_map render (with_sections 0 g.sections []) in
     let tail : List ℕ = flat_map render (with_roots g.roots []) in
     let h : List ℕ = render (header (length g.sections) (length g.roots)) in
-    ap (λ n. ((render (header n k) ++ body) ++ tail) ++ render (end present)) en
+    ap (λ t. t ++ render (end present)) (sym (append_assoc (render (header n k)) body tail))
+    ∙ ap (λ n. ((render (header n k) ++ body) ++ tail) ++ render (end present)) en
     ∙ ap (λ k. ((render (header (length g.sections) k) ++ body) ++ tail) ++ render (end present)) ek
     ∙ ap (λ k. ((h ++ body) ++ tail) ++ render (end k)) ep
     ∙ append_assoc (h ++ body) tail (render (end (present_count g.sections)))

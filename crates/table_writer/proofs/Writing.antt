@@ -8,7 +8,7 @@ use Rattle.std.proofs.lemmas.Bool.{cases_lt}
 use Rattle.fault.specs.declared.Fault.{Fault}
 use Rattle.row_writer.specs.Writing.{small, wrote, over, put, put_at}
 use Rattle.row_writer.proofs.Puts.{wrote_fits, wrote_short, put_fits, put_short, length_over, put_at_start, put_at_put_at, put_lent}
-use Rattle.table_writer.specs.Writes.{Writes, pieces}
+use Rattle.table_writer.specs.Writes.{Writes, Written, pieces}
 
 -- what the writer of a row writes
 pub row_written : (row old new : List ℕ) (answer : Result ℕ Fault) → answer ≡ wrote row old → new ≡ put row old → Writes row old new answer
@@ -131,6 +131,33 @@ first_ends w = omega (arith, w.inside, w.keeps)
 
 pub both_end : {a t b mid last : List ℕ} {n m : ℕ} {r : Result ℕ Fault} → Writes a b mid (Ok n) → Writes t (between n (length mid) mid) last r → r ≡ Ok m → n + m ≤ length mid
 both_end w v e = let z = (both_ok w v e).inside in omega (arith, w.keeps)
+
+-- the same of two writers by what each answers, as a function meets it that has called both
+
+pub first_within : (a b mid : List ℕ) (n : ℕ) (q : Result ℕ Fault) → Writes a b mid q → q ≡ Ok n → n ≤ length mid
+first_within a b mid n q w e = first_ends (subst (Writes a b mid) e w)
+
+pub both_within : (a t b mid last : List ℕ) (n m : ℕ) (q r : Result ℕ Fault) → Writes a b mid q → q ≡ Ok n → Writes t (between n (length mid) mid) last r → r ≡ Ok m
+    → n + m ≤ length mid
+both_within a t b mid last n m q r w e v f = both_end (subst (Writes a b mid) e w) v f
+
+pub both_done : (a t b mid last : List ℕ) (n m : ℕ) (q r : Result ℕ Fault) → Writes a b mid q → q ≡ Ok n → Writes t (between n (length mid) mid) last r → r ≡ Ok m
+    → Written (a ++ t) b (put_mid n (length mid - n) mid last) (Ok (n + m))
+unfolding Written
+both_done a t b mid last n m q r w e v f = both_ok (subst (Writes a b mid) e w) v f
+
+pub second_stopped : (a t b mid last : List ℕ) (n : ℕ) (q r : Result ℕ Fault) (fault : Fault) → Writes a b mid q → q ≡ Ok n → Writes t (between n (length mid) mid) last r → r ≡ Err fault
+    → Written (a ++ t) b (put_mid n (length mid - n) mid last) (Err fault)
+unfolding Written
+second_stopped a t b mid last n q r fault w e v f = both_err (subst (Writes a b mid) e w) v f
+
+pub first_stopped : (a t b mid : List ℕ) (q : Result ℕ Fault) (fault : Fault) → Writes a b mid q → q ≡ Err fault → Written (a ++ t) b mid (Err fault)
+unfolding Written
+first_stopped a t b mid q fault w e = stopped_before a t refl (subst (Writes a b mid) e w)
+
+pub as_writes : {text old new : List ℕ} {answer : Result ℕ Fault} → Written text old new answer → Writes text old new answer
+unfolding Written
+as_writes w = w
 
 -- pieces
 

@@ -12,6 +12,10 @@ pub record Writes (text old new : List ℕ) (answer : Result ℕ Fault) : Type 0
   pub long : length text ≤ length old → answer ≡ Ok (length text)
   pub put : length text ≤ length old → new ≡ over text old
 
+-- the same as one word, where the check is to find the proof: it would take the record apart
+unfoldable pub Written : (text old new : List ℕ) → Result ℕ Fault → Type 0
+Written text old new answer = Writes text old new answer
+
 -- the first n pieces of a text
 abbrev pub pieces : (ℕ → List ℕ) → ℕ → List ℕ
 pieces piece zero = []

@@ -2,14 +2,14 @@
 
 #![tactic(auto)]
 
-ghost use Rattle.std.specs.Prelude.{◌≡◌, ℕ, ◌+◌, ◌*◌, ◌<◌, ◌≤◌, List, length, Some};
+ghost use Rattle.std.specs.Prelude.{◌≡◌, ℕ, ◌+◌, ◌*◌, ◌<◌, ◌≤◌, List, ◌++◌, length, Some};
 ghost use Rattle.std.specs.Borrow.{MutBor};
 ghost use Rattle.model.specs.Graph.{section_of, record_of, relocation_of, root_of, root_count_of};
 ghost use Rattle.row_writer.specs.Writing.{wrote, put};
 ghost use Rattle.layout.specs.Layout.{text_of, present_count};
 ghost use Rattle.graph.specs.Bytes.{bytes_of, relocations_in};
 ghost use Rattle.table_writer.specs.Texts.{bytes_text, relocations_text, section_text, sections_text, roots_text, byte_row, relocation_row, root_row};
-ghost use Rattle.table_writer.specs.Writes.{Writes, pieces, EachWrites};
+ghost use Rattle.table_writer.specs.Writes.{Writes, Written, pieces, EachWrites};
 
 use fault::{Fault, Kind, Layer};
 use graph::SectionGraph;
@@ -174,13 +174,22 @@ fn write_roots<G: SectionGraph>(graph: &G, out: &mut [u8]) -> Result<usize, Faul
     })
 }
 
+// Writes the rows of a table between its first and its last: those of the sections, then those of the roots.
+#[tactic(auto, using(crate::proofs::Writing::first_within, crate::proofs::Writing::both_within, crate::proofs::Writing::both_done, crate::proofs::Writing::second_stopped, crate::proofs::Writing::first_stopped))]
+fn write_body<G: SectionGraph>(graph: &G, out: &mut [u8]) -> Result<usize, Fault>
+    ensures { Written (sections_text 0 (G.SectionGraph.graph graph.now).sections ++ roots_text (G.SectionGraph.graph graph.now).roots) out.old out.new result }
+{
+    let mut at = write_sections(graph, out)?;
+    at += write_roots(graph, &mut out[at..])?;
+    Ok(at)
+}
+
 // Writes the rows of a table.
 fn write_rows<G: SectionGraph>(graph: &G, out: &mut [u8]) -> Result<usize, Fault>
     ensures { Writes (text_of (G.SectionGraph.graph graph.now)) out.old out.new result }
 {
     let mut at = write_header(graph.count(), graph.root_count(), out)?;
-    at += write_sections(graph, &mut out[at..])?;
-    at += write_roots(graph, &mut out[at..])?;
+    at += write_body(graph, &mut out[at..])?;
     at += write_end(present(graph), &mut out[at..])?;
     Ok(at)
 }

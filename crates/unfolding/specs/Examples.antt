@@ -1,4 +1,5 @@
--- Worked examples: small graphs, and what folding and sweeping them gives.
+-- Examples of what an unfolding tells: small graphs, and what folding and sweeping them gives. The list of the worked examples is that
+-- of `runs`.
 use Rattle.std.specs.Prelude.{◌≡◌, ℕ, Bool, ◌&&◌, List, [], ◌∷◌, length, ℤ, pos, negsuc, Some, None, Option, ◌==◌, nat_eq}
 use Rattle.std.specs.List.{AllByRecursion}
 use Rattle.model.specs.declared.Setting.{Setting}

@@ -25,6 +25,10 @@ fn compare(rt: &HostRuntime, table: &Table) -> anyhow::Result<()> {
 }
 
 pub fn check(rt: &HostRuntime, options: Options) -> anyhow::Result<()> {
+    ensure!(
+        options.output.is_none(),
+        "check writes no file: -o is an option of table"
+    );
     let bytes = load(rt, &options.file)?;
     if is_object(bytes.as_slice()) {
         let object = read_object(rt, bytes)?;

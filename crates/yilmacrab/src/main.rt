@@ -12,8 +12,9 @@ mod stale;
 mod table_of;
 
 use anyhow::bail;
-use options::{Options, read_options};
+use options::read_options;
 use std::env;
+use std::env::Args;
 use std::process::ExitCode;
 
 const HELP: &str = "usage: yilmacrab check [FILE]
@@ -36,12 +37,13 @@ fn help(rt: &HostRuntime) -> anyhow::Result<()> {
     Ok(())
 }
 
-fn perform(rt: &HostRuntime, command: &str, options: Options) -> anyhow::Result<()> {
+// The command decides what the words after it mean, so it is looked at first.
+fn perform(rt: &HostRuntime, command: &str, words: Args) -> anyhow::Result<()> {
     match command {
-        "check" => check::check(rt, options),
-        "table" => table_of::table(rt, options),
+        "check" => check::check(rt, read_options(words)?),
+        "table" => table_of::table(rt, read_options(words)?),
         "--help" | "-h" | "help" => help(rt),
-        _ => bail!("no such command; yilmacrab --help lists them"),
+        _ => bail!("no command is called {command}; yilmacrab --help lists them"),
     }
 }
 
@@ -50,7 +52,7 @@ fn run(rt: &HostRuntime) -> anyhow::Result<()> {
     let _program = words.next();
     match words.next() {
         None => help(rt),
-        Some(command) => perform(rt, command.as_str(), read_options(words)?),
+        Some(command) => perform(rt, command.as_str(), words),
     }
 }
 
@@ -61,5 +63,53 @@ fn main(rt: HostRuntime) -> ExitCode {
             let _ = eprintln!(rt; "yilmacrab: {error}");
             ExitCode::FAILURE
         }
+    }
+}
+
+#[cfg(test)]
+mod tests {
+    use super::*;
+    use options::Options;
+
+    // What is said of what cannot be done.
+    fn said(rt: &HostRuntime, done: anyhow::Result<()>) -> anyhow::Result<String> {
+        match done {
+            Ok(()) => bail!("it was done"),
+            Err(error) => Ok(format!(in rt.alloc(); "{error}")?),
+        }
+    }
+
+    // The words of this run are none of yilmacrab's: a wrong command is refused before they are read.
+    #[test]
+    fn a_wrong_command_is_named(rt: HostRuntime) -> anyhow::Result<()> {
+        let done = perform(&rt, "chekc", env::args(&rt)?);
+        assert_eq!(rt;
+            said(&rt, done)?.as_str(),
+            "no command is called chekc; yilmacrab --help lists them"
+        );
+        Ok(())
+    }
+
+    #[test]
+    fn a_wrong_option_is_named(rt: HostRuntime) -> anyhow::Result<()> {
+        let done = Options::default().take(String::from_str(rt.alloc(), "-x")?);
+        assert_eq!(rt;
+            said(&rt, done)?.as_str(),
+            "no option is called -x; yilmacrab --help lists them"
+        );
+        Ok(())
+    }
+
+    #[test]
+    fn check_takes_no_output(rt: HostRuntime) -> anyhow::Result<()> {
+        let options = Options {
+            file: None,
+            output: Some(String::from_str(rt.alloc(), "out.table")?),
+        };
+        assert_eq!(rt;
+            said(&rt, check::check(&rt, options))?.as_str(),
+            "check writes no file: -o is an option of table"
+        );
+        Ok(())
     }
 }

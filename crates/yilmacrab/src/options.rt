@@ -1,5 +1,5 @@
 // The words after a command.
-use anyhow::{Context, bail};
+use anyhow::{Context, bail, ensure};
 use std::env::Args;
 
 #[derive(Drop, Default)]
@@ -8,6 +8,18 @@ pub struct Options {
     pub file: Option<String>,
     // the file that the table is written to; without one, standard output
     pub output: Option<String>,
+}
+
+impl Options {
+    // Takes a word that is not -o: the file that is read.
+    pub fn take(&mut self, word: String) -> anyhow::Result<()> {
+        if word.as_str().starts_with('-') {
+            bail!("no option is called {word}; yilmacrab --help lists them");
+        }
+        ensure!(self.file.is_none(), "only one file can be read");
+        self.file = Some(word);
+        Ok(())
+    }
 }
 
 // At most 64 words and file names: what comes after is refused, and the loop ends.
@@ -19,12 +31,8 @@ pub fn read_options(mut words: Args) -> anyhow::Result<Options> {
         };
         if word.as_str() == "-o" {
             options.output = Some(words.next().context("a file name has to follow -o")?);
-        } else if word.as_str().starts_with('-') {
-            bail!("no such option; yilmacrab --help lists them");
-        } else if options.file.is_some() {
-            bail!("only one file can be read");
         } else {
-            options.file = Some(word);
+            options.take(word)?;
         }
     }
     bail!("too many words")
