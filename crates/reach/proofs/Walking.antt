@@ -165,9 +165,6 @@ module _ (m n : List Bool) (ps qs : List ℕ) (s : ℕ) (sized : length m ≡ 10
 
 -- growing
 
-pub grown_same : (m : List Bool) (ps : List ℕ) → Grown m ps m ps
-grown_same m ps = record { sized = refl; kept = λ s h. h; waits = λ s h. h; fresh = λ s h. inl h; level = refl }
-
 pub grown_on :
     (m n o : List Bool) (ps qs rs : List ℕ) → Grown m ps n qs → Grown n qs o rs → Grown m ps o rs
 grown_on m n o ps qs rs a b =
