@@ -14,7 +14,7 @@ use Rattle.unfolding.proofs.Same.{decides_both, integer_decides}
 use Rattle.unfolding.proofs.Rules.{lawful_rules}
 use Rattle.content.specs.Core.{unnamed, bare, same_outside, same_bare, Core, core_of, same_core, mixed_arm, mixed_arms}
 use Rattle.graph.specs.Bytes.{relocations_in}
-use Rattle.content.proofs.Tested.{relocation_nth}
+use Rattle.graph.proofs.Told.{relocation_nth}
 
 outside_decides : (a b : Target) → Decides (same_outside a b) (told_map unnamed (told_target a) ≡ told_map unnamed (told_target b))
 outside_decides (Section a) (Section b) = (λ e. refl, λ e. refl)

@@ -4,6 +4,7 @@ use Rattle.std.specs.List.{slice_get}
 use Rattle.std.proofs.lemmas.List.{drop_all}
 use Rattle.model.specs.declared.Relocation.{Relocation}
 use Rattle.model.specs.Graph.{Body, told_relocation}
+use Rattle.graph.proofs.Told.{relocation_nth}
 use Rattle.graph.proofs.Places.{drop_nth, nth_none}
 use Rattle.unfolding.specs.Depth.{same_list}
 use Rattle.graph.specs.Bytes.{relocations_in}
@@ -39,10 +40,6 @@ module _ {X : Type 0} (test : X → X → Bool) where
       go None e (Some y) f = rw (gone xs e, drop_nth ys j y f)
       go (Some x) e None f = rw (drop_nth xs j x e, gone ys f)
       go (Some x) e (Some y) f = rw (drop_nth xs j x e, drop_nth ys j y f)
-
-pub relocation_nth : (o : Option Body) (j : ℕ) → told_relocation o j ≡ slice_get (relocations_in o) j
-relocation_nth None j = refl
-relocation_nth (Some b) j = refl
 
 -- the relocations of two sections, tested one after the other
 module _ (test : Relocation → Relocation → Bool) (o p : Option Body) where

@@ -50,10 +50,7 @@ impl From<Relocation> for Bare {
             offset: r.offset,
             kind: r.kind,
             displacement: r.displacement,
-            outside: match r.target {
-                Target::Section(_) => None,
-                Target::Outside(e) => Some(e),
-            },
+            outside: r.target.outside(),
         }
     }
 }

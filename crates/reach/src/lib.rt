@@ -10,7 +10,7 @@ ghost use Rattle.reach.specs.Walk.{aim_of, aims, mark_count, IsFresh, Taken};
 
 use arrayvec::ArrayVec;
 use graph::{SectionGraph, relocations_told};
-use model::{Relocation, Target};
+use model::Relocation;
 
 // The sections entered so far: a mark for each number, and those of them whose relocations are still to be followed.
 #[derive(Drop)]
@@ -47,10 +47,7 @@ pub fn reach<G: SectionGraph>(graph: &G) -> [bool; 1024]
 fn aim(told: Option<Relocation>) -> Option<u16>
     ensures { result ≡ aim_of told }
 {
-    match told?.target {
-        Target::Section(t) => Some(t),
-        Target::Outside(_) => None,
-    }
+    told?.target.section()
 }
 
 // No section is marked. A function of its own, so that a wrong mark is refused here and not in the proof of `new`.
