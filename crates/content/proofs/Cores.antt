@@ -1,11 +1,11 @@
 -- The test of cores decides their equality, and a digest tells no more than a core.
-use Rattle.std.proofs.Common.{◌≡◌, ℕ, ◌+◌, ◌≤◌, ◌&&◌, eqb, List, [], ◌∷◌, map, length, drop, Some, None, Decides, Option, sym, refl, ap, ◌∙◌, subst, arith}
+use Rattle.std.proofs.Common.{◌≡◌, ℕ, ◌+◌, ◌≤◌, ◌&&◌, eqb, List, [], ◌∷◌, map, length, drop, Some, None, Decides, Option, sym, refl, ap, ◌∙◌, arith}
 use Rattle.std.proofs.lemmas.Bool.Decides.{Decides-eqb, Decides-and, Decides-like}
 use Rattle.std.proofs.lemmas.List.{drop_all}
 use Rattle.model.specs.declared.Target.{Target}
 use Rattle.model.specs.declared.Target.TheVariants.{Section, Outside}
 use Rattle.model.specs.declared.Relocation.{Relocation}
-use Rattle.model.specs.Graph.{Body, told_record, told_relocation}
+use Rattle.model.specs.Graph.{Body, told_relocation}
 use Rattle.graph.proofs.Places.{drop_nth, nth_none}
 use Rattle.unfolding.specs.Depth.{Arm, told_map, same_integer, same_list}
 use Rattle.unfolding.specs.Telling.{told_target}
@@ -13,8 +13,8 @@ use Rattle.unfolding.specs.Sections.{Face, face_of, same_face, rules}
 use Rattle.unfolding.proofs.Same.{decides_both, integer_decides}
 use Rattle.unfolding.proofs.Rules.{lawful_rules}
 use Rattle.content.specs.Core.{unnamed, bare, same_outside, same_bare, Core, core_of, same_core, mixed_arm, mixed_arms}
-use Rattle.graph.specs.Bytes.{relocations_in, told_count}
-use Rattle.content.proofs.Tested.{relocation_nth, count_length}
+use Rattle.graph.specs.Bytes.{relocations_in}
+use Rattle.graph.proofs.Told.{relocation_nth}
 
 outside_decides : (a b : Target) → Decides (same_outside a b) (told_map unnamed (told_target a) ≡ told_map unnamed (told_target b))
 outside_decides (Section a) (Section b) = (λ e. refl, λ e. refl)
@@ -89,9 +89,3 @@ digest_none o h j e =
     let past : length (relocations_in o) ≤ j = nth_none (relocations_in o) j (sym (relocation_nth o j) ∙ e) in
     ap (λ (rs : List Relocation). mixed_arms h (map bare rs))
     (drop_all (j + 1) (relocations_in o) (omega arith) ∙ sym (drop_all j (relocations_in o) past))
-
-pub digest_end :
-    (o : Option Body) (h j : ℕ) → told_count (told_record o) ≤ j → mixed_arms h (map bare (drop j (relocations_in o))) ≡ h
-digest_end o h j l =
-    ap (λ (rs : List Relocation). mixed_arms h (map bare rs))
-    (drop_all j (relocations_in o) (subst (λ (n : ℕ). n ≤ j) (count_length o) l))

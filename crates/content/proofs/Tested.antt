@@ -1,12 +1,13 @@
 -- Two lists that are tested place by place, and what the questions tell of a section's relocations.
-use Rattle.std.proofs.Common.{◌≡◌, ℕ, ◌+◌, Bool, true, false, ◌&&◌, List, [], length, drop, Some, None, Option, sym, refl, ap, ◌∙◌, arith}
+use Rattle.std.proofs.Common.{◌≡◌, ℕ, ◌+◌, Bool, true, false, ◌&&◌, List, [], drop, Some, None, Option, sym, refl, ap, ◌∙◌, arith}
 use Rattle.std.specs.List.{slice_get}
 use Rattle.std.proofs.lemmas.List.{drop_all}
 use Rattle.model.specs.declared.Relocation.{Relocation}
-use Rattle.model.specs.Graph.{Body, told_relocation, told_record}
+use Rattle.model.specs.Graph.{Body, told_relocation}
+use Rattle.graph.proofs.Told.{relocation_nth}
 use Rattle.graph.proofs.Places.{drop_nth, nth_none}
 use Rattle.unfolding.specs.Depth.{same_list}
-use Rattle.graph.specs.Bytes.{relocations_in, told_count}
+use Rattle.graph.specs.Bytes.{relocations_in}
 
 -- two answers pass a test, or both are none
 abbrev pub both_told : {X : Type 0} → (X → X → Bool) → Option X → Option X → Bool
@@ -39,14 +40,6 @@ module _ {X : Type 0} (test : X → X → Bool) where
       go None e (Some y) f = rw (gone xs e, drop_nth ys j y f)
       go (Some x) e None f = rw (drop_nth xs j x e, gone ys f)
       go (Some x) e (Some y) f = rw (drop_nth xs j x e, drop_nth ys j y f)
-
-pub relocation_nth : (o : Option Body) (j : ℕ) → told_relocation o j ≡ slice_get (relocations_in o) j
-relocation_nth None j = refl
-relocation_nth (Some b) j = refl
-
-pub count_length : (o : Option Body) → told_count (told_record o) ≡ length (relocations_in o)
-count_length None = refl
-count_length (Some b) = refl
 
 -- the relocations of two sections, tested one after the other
 module _ (test : Relocation → Relocation → Bool) (o p : Option Body) where

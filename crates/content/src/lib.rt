@@ -50,10 +50,7 @@ impl From<Relocation> for Bare {
             offset: r.offset,
             kind: r.kind,
             displacement: r.displacement,
-            outside: match r.target {
-                Target::Section(_) => None,
-                Target::Outside(e) => Some(e),
-            },
+            outside: r.target.outside(),
         }
     }
 }
@@ -65,7 +62,8 @@ fn same_link(r: Relocation, q: Relocation) -> bool
     Bare::from(r) == Bare::from(q)
 }
 
-// Whether sections `s` and `t` have as many relocations, and each two of them at one place are alike.
+// Whether sections `s` and `t` have as many relocations, and each two of them at one place are alike. By a loop: with `all` over the
+// numbers the check does not find the proof alone, and an edit of what an answer cites is refused in the proof file.
 fn all_alike<G: SectionGraph, F: Fn(Relocation, Relocation) -> bool>(
     graph: &G,
     s: u16,
@@ -135,6 +133,7 @@ fn mix_link(digest: u64, r: Relocation) -> u64
 }
 
 // A digest of what `same_content` compares: where it differs, the contents differ. Where it is the same, nothing is said.
+// A loop mixes the relocations in, for the same reason: with `filter_map` and `fold` the check does not find the proof alone.
 pub fn content_digest<G: SectionGraph>(graph: &G, s: u16) -> u64
     ensures { result ≡ digest_core (core_of (section_of (G.SectionGraph.graph graph.now) s)) }
 {

@@ -1,21 +1,9 @@
 -- An array that is made from a function of the index, by calls that leave the function as it was.
-use Rattle.std.proofs.Common.{◌≡◌, ℕ, zero, suc, ◌+◌, ◌<◌, ◌≤◌, List, get_or, refl, sym, ◌∙◌, subst, ⊎_elim, arith}
+use Rattle.std.proofs.Common.{◌≡◌, ℕ, zero, suc, ◌+◌, ◌<◌, ◌≤◌, List, get_or, refl, ◌∙◌, subst, ⊎_elim, arith}
 use Rattle.std.proofs.lemmas.Bool.{cases_lt}
-use Rattle.std.proofs.lemmas.Fn.{serves_by}
-use Rattle.std.specs.Array.{index_steps, IsFromFnResult, IsFromFnResultFrom}
+use Rattle.std.specs.Array.{IsFromFnResult, IsFromFnResultFrom}
 use Rattle.std.specs.Fn.{Called}
-use Rattle.std.specs.Iterator.{CallableAtEachTurn}
 use denote.Param.Members.{Mut}
-
-pub serves_from_indices :
-    {P : Type 0} {R : P → ℕ → P → Type 0} {Q : P → ℕ → Type 0} {n : ℕ} {p : P} →
-    ((x : ℕ) (q : P) → R p x q → q ≡ p) → ((x : ℕ) → x < n → Q p x) → CallableAtEachTurn (index_steps n) R Q 0 p
-serves_from_indices {P} {R} {Q} {n} {p} stays h =
-    serves_by R (λ xs q. q ≡ p) (λ xs q x v j r. stays x v (subst (λ (y : P). R y x v) j r)) (index_steps n) Q 0 p refl
-    (λ xs t q x u ys e j.
-    let here = e.1 in
-    let low = e.0 in
-    subst (λ (y : P). Q y x) (sym j) (h x (omega arith)))
 
 pub from_fn_at :
     {F : Type 0} {g : Mut F (ℕ × Unit {0}) ℕ} (h : ℕ → ℕ) (f : F) (ys : List ℕ) (n : ℕ) →

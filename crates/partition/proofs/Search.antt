@@ -1,5 +1,5 @@
 -- What a search from a number on finds.
-use Rattle.std.proofs.Common.{◌≡◌, ℕ, ◌<◌, ◌≤◌, Bool, true, false, Some, None, Option, MatchOption, IfSome, unwrap_or, sym, arith}
+use Rattle.std.proofs.Common.{◌≡◌, ℕ, ◌<◌, ◌≤◌, Bool, true, false, Some, None, Option, MatchOption, unwrap_or, sym, arith}
 use Rattle.partition.specs.Classes.{Found, Finds}
 
 pub finds_lowest :
@@ -12,14 +12,6 @@ finds_lowest gives low n None h =
 finds_lowest gives low n (Some m) h =
     let below = h.1 in
     record { from = λ _. h.0; before = h.3; found = λ _. (h.0, h.2); bounded = omega arith }
-
-pub found_inside :
-    (gives : ℕ → Bool → Type 0) (low n : ℕ) (r : Option ℕ) →
-    MatchOption r ((t : ℕ) → low ≤ t → t < n → gives t false)
-    (λ m. (low ≤ m) × (m < n) × gives m true × ((t : ℕ) → low ≤ t → t < m → gives t false)) →
-    IfSome r (λ m. m < n)
-found_inside gives low n None h = tt
-found_inside gives low n (Some m) h = h.1
 
 -- where what is given is the test's answer
 pub found_from :

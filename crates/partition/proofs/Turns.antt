@@ -136,9 +136,6 @@ module _ (g : Graph) (k : ℕ) (old new : List ℕ) (c : Classes g k old) (d : C
       (class_rep rules lawful_rules g (suc k) s (stays_stable rules lawful_rules g k (suc k) h (omega arith)) ∙
       (sym (class_rep rules lawful_rules g k s h) ∙ sym (c.at s (omega arith)))))
 
-pub turn_start : (g : Graph) (cs : List ℕ) → Classes g 0 cs → Turn g 0 cs
-turn_start g cs c = record { classes = c; early = omega arith }
-
 pub turn_next : (g : Graph) (k : ℕ) (old new : List ℕ) → Turn g k old → Refined g old new → Decides false (new ≡ old) → Turn g (k + 1) new
 turn_next g k old new t r s =
     let next = r k t.classes in
@@ -172,7 +169,11 @@ pub turn_last : (g : Graph) → Valid g → (k : ℕ) (old new : List ℕ) → T
 turn_last g v k old new t r s =
     settled g k old t (still_stable g k old new t.classes (r k t.classes) (s.0 refl) v)
 
+-- as many rounds as there are sections are enough
 pub turn_end : (g : Graph) (k : ℕ) (cs : List ℕ) → Turn g k cs → count_of g ≤ k → Settled g k cs
 turn_end g k cs t l =
     let at : rounds g ≡ k = (let e = t.early in let f = rounds_bounded rules lawful_rules g in omega arith) in
     settled g k cs t (subst (Stable g) at (rounds_stable rules lawful_rules g))
+
+pub rounds_end : (g : Graph) (k n : ℕ) (cs : List ℕ) → Turn g k cs → n ≡ count_of g → n ≤ k → k ≤ n → n ≡ rounds g
+rounds_end g k n cs t e low high = let h = (turn_end g k cs t (omega arith)).rounds in omega arith

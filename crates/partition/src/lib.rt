@@ -3,9 +3,7 @@
 #![tactic(auto)]
 
 ghost use Rattle.std.specs.Prelude.{◌≡◌, ℕ, ◌<◌, ◌≤◌, IfSome, slice_index, unwrap_or};
-ghost use Rattle.model.specs.Graph.{count_of};
 ghost use Rattle.steps.specs.Below.{table};
-ghost use Rattle.unfolding.specs.Groups.{foldable};
 ghost use Rattle.unfolding.specs.Sections.{rep, rounds};
 ghost use Rattle.partition.specs.Classes.{Finds, Found, marked_class, joined, based, base_at, digest_of, Based, Bases, Classes, Refined};
 
@@ -33,42 +31,33 @@ struct Sought<'a, G: SectionGraph> {
     ghost known: { digest ≡ digest_of (G.SectionGraph.graph graph.now) section },
 }
 
-// A round: the sections, their bases, and their classes before it.
+// What a round of the refinement goes by: the sections and their bases.
 #[derive(Drop)]
-struct Round<'a, G: SectionGraph> {
+struct Refinement<'a, G: SectionGraph> {
     graph: &'a G,
     bases: &'a [Option<Base>; 1024],
-    old: &'a [u16; 1024],
+    ghost known: { Bases (G.SectionGraph.graph graph.now) bases.now },
 }
 
 // Puts into `class` for each section the lowest one that agrees with it at every depth, itself for a section that is pinned or absent,
-// and answers the rounds: the least depth that has the same groups as the next. The caller gives the array, so that its 2 KiB are
-// written in place.
+// and answers the rounds: the least depth that has the same groups as the next. The caller gives the array: a pair of 2 KiB and
+// a number would be no plainer, and may be copied once more.
+//
+// It goes on from the classes at depth 0, depth by depth, until a round changes nothing; as many rounds as there are sections are enough.
+#[tactic(auto, using(crate::proofs::Turns::turn_end, crate::proofs::Turns::rounds_end))]
 pub fn partition<G: SectionGraph>(graph: &G, class: &mut [u16; 1024]) -> u16
     ensures classes { class.new ≡ table (rep (G.SectionGraph.graph graph.now)) 1024 }
     ensures rounds { result ≡ rounds (G.SectionGraph.graph graph.now) }
 {
     *class = by_mark(graph);
-    settle(graph, &bases(graph), class, graph.count())
-}
-
-// Goes on from the classes at depth 0, depth by depth, until a round changes nothing; as many rounds as there are sections are enough.
-//
-// A function of its own, so that the limit is proved to be the count where it is given.
-fn settle<G: SectionGraph>(
-    graph: &G,
-    bases: &[Option<Base>; 1024],
-    class: &mut [u16; 1024],
-    limit: u16,
-) -> u16
-    requires bases { Bases (G.SectionGraph.graph graph.now) bases.now }
-    requires start { Classes (G.SectionGraph.graph graph.now) 0 class.old }
-    requires limit { limit ≡ count_of (G.SectionGraph.graph graph.now) }
-    ensures classes { class.new ≡ table (rep (G.SectionGraph.graph graph.now)) 1024 }
-    ensures rounds { result ≡ rounds (G.SectionGraph.graph graph.now) }
-{
+    let bases = bases(graph);
+    let refinement = Refinement {
+        graph,
+        bases: &bases,
+    };
+    let limit = graph.count();
     for k in 0..limit {
-        let next = refine(graph, bases, class);
+        let next = refinement.refine(class);
         if next == *class {
             return k;
         }
@@ -155,6 +144,7 @@ fn base_of<G: SectionGraph>(graph: &G, bases: &[Option<Base>; 1024], s: u16) -> 
 }
 
 // The base of each foldable section. A loop over the numbers, since each base is found from those before it.
+#[tactic(auto, using(crate::proofs::Leaders::filled_start, crate::proofs::Leaders::filled_set, crate::proofs::Leaders::filled_end))]
 fn bases<G: SectionGraph>(graph: &G) -> [Option<Base>; 1024]
     ensures { Bases (G.SectionGraph.graph graph.now) result }
 {
@@ -166,44 +156,38 @@ fn bases<G: SectionGraph>(graph: &G) -> [Option<Base>; 1024]
     bases
 }
 
-// A round: from the classes at one depth those at the next. A loop over the numbers, since each class is found from those before it.
-fn refine<G: SectionGraph>(
-    graph: &G,
-    bases: &[Option<Base>; 1024],
-    old: &[u16; 1024],
-) -> [u16; 1024]
-    requires { Bases (G.SectionGraph.graph graph.now) bases.now }
-    ensures { Refined (G.SectionGraph.graph graph.now) old.now result }
-{
-    let round = Round { graph, bases, old };
-    let mut new = [0; 1024];
-    for s in 0..1024u16 {
-        let leader = round.leader(&new, s);
-        new[s as usize] = leader;
-    }
-    new
-}
-
-impl<'a, G: SectionGraph> Round<'a, G> {
-    // Whether section `s` joins section `t` in this round: `t` leads its new class, and both have the same old class, the same base,
-    // and targets in the same old classes.
-    fn joins(&self, new: &[u16; 1024], s: u16, t: u16) -> bool
+impl<'a, G: SectionGraph> Refinement<'a, G> {
+    // Whether section `s` joins section `t` in a round: `t` leads its new class, and both have the same old class, the same base, and
+    // targets in the same old classes.
+    fn joins(&self, old: &[u16; 1024], new: &[u16; 1024], s: u16, t: u16) -> bool
         requires small { s < 1024 }
         requires low { t < s }
-        ensures { result ≡ joined (G.SectionGraph.graph self.now.graph.now) self.now.bases.now self.now.old.now new.now s t }
+        ensures { result ≡ joined (G.SectionGraph.graph self.now.graph.now) self.now.bases.now old.now new.now s t }
     {
         new[t as usize] == t
-            && self.old[t as usize] == self.old[s as usize]
+            && old[t as usize] == old[s as usize]
             && self.bases[t as usize] == self.bases[s as usize]
-            && same_aims(self.graph, self.old, t, s)
+            && same_aims(self.graph, old, t, s)
     }
 
     // The lowest section from the old class of `s` on that `s` joins, and `s` itself if there is none.
-    fn leader(&self, new: &[u16; 1024], s: u16) -> u16
+    fn leader(&self, old: &[u16; 1024], new: &[u16; 1024], s: u16) -> u16
         requires { s < 1024 }
-        ensures { Found (joined (G.SectionGraph.graph self.now.graph.now) self.now.bases.now self.now.old.now new.now s) (slice_index self.now.old.now s) s result }
+        ensures { Found (joined (G.SectionGraph.graph self.now.graph.now) self.now.bases.now old.now new.now s) (slice_index old.now s) s result }
     {
-        let first = self.old[s as usize];
-        lowest(first, s, |t| self.joins(new, s, t)).unwrap_or(s)
+        let first = old[s as usize];
+        lowest(first, s, |t| self.joins(old, new, s, t)).unwrap_or(s)
+    }
+
+    // A round: from the classes at one depth those at the next. A loop over the numbers, since each class is found from those before it.
+    fn refine(&self, old: &[u16; 1024]) -> [u16; 1024]
+        ensures { Refined (G.SectionGraph.graph self.now.graph.now) old.now result }
+    {
+        let mut new = [0; 1024];
+        for s in 0..1024u16 {
+            let leader = self.leader(old, &new, s);
+            new[s as usize] = leader;
+        }
+        new
     }
 }

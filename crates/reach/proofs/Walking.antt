@@ -9,7 +9,7 @@ use Rattle.std.proofs.lemmas.Option.{slice_get_past}
 use Rattle.model.specs.declared.Target.{Target}
 use Rattle.model.specs.declared.Target.TheVariants.{Section, Outside}
 use Rattle.model.specs.declared.Relocation.{Relocation}
-use Rattle.model.specs.Graph.{Body, Graph, Present, section_of, count_of, root_of, relocation_of, told_relocation, told_record}
+use Rattle.model.specs.Graph.{Body, Graph, Present, section_of, count_of, root_of, relocation_of, section_named, told_relocation, told_record}
 use Rattle.model.specs.Laws.{Valid}
 use Rattle.graph.proofs.Places.{nth_none}
 use Rattle.steps.specs.Below.{count_below, table}
@@ -21,7 +21,7 @@ use Rattle.unfolding.proofs.Marks.{present_bound}
 use Rattle.folding.proofs.Reach.{reached_decides}
 use Rattle.folding.proofs.Both.{target_present}
 use Rattle.graph.specs.Bytes.{told_count}
-use Rattle.reach.specs.Walk.{section_at, aim_of, aims, mark_count, IsFresh, Grown, Taken}
+use Rattle.reach.specs.Walk.{aim_of, aims, mark_count, IsFresh, Grown, Taken}
 
 -- reached sections
 
@@ -58,7 +58,7 @@ aim_is : (o : Option Relocation) (t : ℕ) → aim_of o ≡ Some t → (r : Relo
 aim_is None t e = let z : ◌≡◌ {A = ℕ} 0 1 = cc in absurd (omega arith)
 aim_is (Some r) t e = (r, refl, at r.target e)
   where
-    at : (x : Target) → section_at x ≡ Some t → x ≡ Section t
+    at : (x : Target) → section_named x ≡ Some t → x ≡ Section t
     at (Section u) f = cc
     at (Outside u) f = let z : ◌≡◌ {A = ℕ} 0 1 = cc in absurd (omega arith)
 
@@ -164,9 +164,6 @@ module _ (m n : List Bool) (ps qs : List ℕ) (s : ℕ) (sized : length m ≡ 10
       }
 
 -- growing
-
-pub grown_same : (m : List Bool) (ps : List ℕ) → Grown m ps m ps
-grown_same m ps = record { sized = refl; kept = λ s h. h; waits = λ s h. h; fresh = λ s h. inl h; level = refl }
 
 pub grown_on :
     (m n o : List Bool) (ps qs rs : List ℕ) → Grown m ps n qs → Grown n qs o rs → Grown m ps o rs
@@ -301,7 +298,7 @@ module _ (g : Graph) (v : Valid g) (m : List Bool) (taken : Taken (root_of g) m)
   chain_marked (step {s} j {t} {r} q e f) =
       ⊎_elim
       (λ h. let lt : h.0 < 0 = h.1 in absurd (omega arith))
-      (λ h. h j t (ap aim_of e ∙ ap section_at f))
+      (λ h. h j t (ap aim_of e ∙ ap section_named f))
       (followed s (chain_marked q))
 
   -- the marks are the reached sections

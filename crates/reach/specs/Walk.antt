@@ -1,20 +1,14 @@
 -- The walk along the relocations, while it goes on.
 use Rattle.std.specs.Prelude.{◌≡◌, ℕ, ◌+◌, Bool, true, false, List, [], length, Some, None, Option, replicate, ◌⊎◌, Contains}
-use Rattle.model.specs.declared.Target.{Target}
-use Rattle.model.specs.declared.Target.TheVariants.{Section, Outside}
 use Rattle.model.specs.declared.Relocation.{Relocation}
-use Rattle.model.specs.Graph.{Graph, relocation_of}
+use Rattle.model.specs.Graph.{Graph, relocation_of, section_named}
 use Rattle.steps.specs.Below.{count_below}
 use Rattle.unfolding.specs.Reach.{marked}
-
-abbrev pub section_at : Target → Option ℕ
-section_at (Section t) = Some t
-section_at (Outside e) = None
 
 -- the section that a relocation points at
 abbrev pub aim_of : Option Relocation → Option ℕ
 aim_of None = None
-aim_of (Some r) = section_at r.target
+aim_of (Some r) = section_named r.target
 
 -- the section that relocation j of section s points at
 abbrev pub aims : Graph → ℕ → ℕ → Option ℕ

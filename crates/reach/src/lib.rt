@@ -6,11 +6,11 @@ ghost use Rattle.std.specs.Prelude.{◌≡◌, ℕ, ◌<◌, ◌≤◌, true, fa
 ghost use Rattle.model.specs.Graph.{root_of};
 ghost use Rattle.steps.specs.Below.{table};
 ghost use Rattle.unfolding.specs.Reach.{reached, marked};
-ghost use Rattle.reach.specs.Walk.{aim_of, aims, mark_count, IsFresh, Grown, Taken};
+ghost use Rattle.reach.specs.Walk.{aim_of, aims, mark_count, IsFresh, Taken};
 
 use arrayvec::ArrayVec;
 use graph::{SectionGraph, relocations_told};
-use model::{Relocation, Target};
+use model::Relocation;
 
 // The sections entered so far: a mark for each number, and those of them whose relocations are still to be followed.
 #[derive(Drop)]
@@ -47,20 +47,17 @@ pub fn reach<G: SectionGraph>(graph: &G) -> [bool; 1024]
 fn aim(told: Option<Relocation>) -> Option<u16>
     ensures { result ≡ aim_of told }
 {
-    match told?.target {
-        Target::Section(t) => Some(t),
-        Target::Outside(_) => None,
-    }
+    told?.target.section()
 }
 
-// No section is marked.
+// No section is marked. A function of its own, so that a wrong mark is refused here and not in the proof of `new`.
 fn unmarked() -> [bool; 1024]
     ensures { result ≡ replicate 1024 false }
 {
     [false; 1024]
 }
 
-// Marks section `s`.
+// Marks section `s`. A function of its own too: a mark that is not set is refused here and not in the proof of `enter`.
 fn mark(marks: &mut [bool; 1024], s: u16)
     requires { s < 1024 }
     ensures { marks.new ≡ slice_set marks.old s true }
@@ -69,6 +66,8 @@ fn mark(marks: &mut [bool; 1024], s: u16)
 }
 
 impl<'a, G: SectionGraph> Walk<'a, G> {
+    ghost use Rattle.reach.specs.Onward.{Onward};
+
     // Nothing is entered.
     fn new(graph: &'a G) -> Self
         ensures graph { result.graph.now ≡ graph.now }
@@ -85,8 +84,7 @@ impl<'a, G: SectionGraph> Walk<'a, G> {
     // is room, since no more are pending than are marked.
     fn enter(&mut self, s: u16)
         requires { reached (G.SectionGraph.graph self.old.graph.now) s ≡ true }
-        ensures graph { self.new.graph ≡ self.old.graph }
-        ensures grown { Grown self.old.marks self.old.pending.items self.new.marks self.new.pending.items }
+        ensures onward { Onward self.old self.new }
         ensures here { marked self.new.marks s ≡ true }
     {
         if !self.marks[s as usize] {
@@ -97,8 +95,7 @@ impl<'a, G: SectionGraph> Walk<'a, G> {
 
     // Enters every root.
     fn enter_roots(&mut self)
-        ensures graph { self.new.graph ≡ self.old.graph }
-        ensures grown { Grown self.old.marks self.old.pending.items self.new.marks self.new.pending.items }
+        ensures onward { Onward self.old self.new }
         ensures taken { Taken (root_of (G.SectionGraph.graph self.old.graph.now)) self.new.marks }
     {
         for j in 0..self.graph.root_count() {
@@ -111,8 +108,7 @@ impl<'a, G: SectionGraph> Walk<'a, G> {
     // Enters every section that a relocation of section `s` points at.
     fn follow(&mut self, s: u16)
         requires { reached (G.SectionGraph.graph self.old.graph.now) s ≡ true }
-        ensures graph { self.new.graph ≡ self.old.graph }
-        ensures grown { Grown self.old.marks self.old.pending.items self.new.marks self.new.pending.items }
+        ensures onward { Onward self.old self.new }
         ensures taken { Taken (aims (G.SectionGraph.graph self.old.graph.now) s) self.new.marks }
     {
         for j in 0..relocations_told(self.graph.record_of(s)) {

@@ -1,8 +1,8 @@
-use Rattle.std.proofs.Common.{ℕ, ◌+◌, ◌≤◌, map, drop, sym, ap, ◌∙◌, arith}
-use Rattle.model.specs.Graph.{section_of, told_record}
+use Rattle.std.proofs.Common.{ℕ, ◌+◌, map, drop, sym, ap, ◌∙◌}
+use Rattle.model.specs.Graph.{section_of}
 use Rattle.content.specs.Core.{bare, mixed_arms}
-use Rattle.graph.specs.Bytes.{relocations_in, told_count}
-use Rattle.content.proofs.Cores.{digest_some, digest_none, digest_end}
+use Rattle.graph.specs.Bytes.{relocations_in}
+use Rattle.content.proofs.Cores.{digest_some, digest_none}
 use Rattle.content.proofs.content_digest.Goals as goal
 use Rattle.content.proofs.content_digest.Goals.{in-Some, in_default}
 
@@ -18,10 +18,3 @@ loop-j-preserved g c =
           ap (λ (h : ℕ). mixed_arms h (map bare (drop (j + 1) (relocations_in o)))) w.digest-is ∙
           (digest_none o c.loop-j.digest j (sym c.relocation.ensures ∙ w.in_default.is) ∙ c.loop-j.invariant)
     ]
-
-pub returns : goal.returns
-returns g c =
-    let o = section_of (g.G.SectionGraph.graph c.args.graph.now) c.args.s in
-    let count = c.relocations_told-j-end.ensures ∙ ap told_count c.record_of-told.ensures in
-    let past : told_count (told_record o) ≤ c.loop-j.j = omega arith in
-    sym (digest_end o c.loop-j.digest c.loop-j.j past) ∙ c.loop-j.invariant

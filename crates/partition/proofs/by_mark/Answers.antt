@@ -1,13 +1,10 @@
-use Rattle.std.proofs.Common.{rules, arith}
+use Rattle.std.proofs.Common.{rules}
 use Rattle.unfolding.specs.Groups.{foldable}
 use Rattle.partition.specs.Classes.{marked_class}
 use Rattle.partition.proofs.Search.{found_from}
-use Rattle.partition.proofs.Filled.{serves_from_indices, from_fn_at}
+use Rattle.partition.proofs.Filled.{from_fn_at}
 use Rattle.partition.proofs.Turns.{marked_classes}
 use Rattle.partition.proofs.by_mark.Goals as goal
-
-pub from_fn-requires : goal.from_fn-requires
-from_fn-requires g c = (omega arith, serves_from_indices (λ x q k. search rules) (λ x h. search rules))
 
 pub returns : goal.returns
 returns g c =

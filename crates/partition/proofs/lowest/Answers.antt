@@ -1,18 +1,7 @@
-use Rattle.std.proofs.Common.{true, false, rules, tests}
-use Rattle.std.proofs.lemmas.Iterator.{first_from_Range, serves_from_Range}
-use Rattle.partition.proofs.Search.{found_inside, finds_lowest}
+use Rattle.std.proofs.Common.{true, false, rules}
+use Rattle.std.proofs.lemmas.Iterator.{first_from_Range}
+use Rattle.partition.proofs.Search.{finds_lowest}
 use Rattle.partition.proofs.lowest.Goals as goal
-
-pub find-requires : goal.find-requires
-find-requires g c =
-    record { can = tt; finite = tt; callable = serves_from_Range (λ x q k. search (rules, tests)) (λ x low high. search (rules, c.requires x low high)) }
-
-pub returns-clause-inside : goal.returns-clause-inside
-returns-clause-inside g c =
-    found_inside (goal.F-post g c.args.passes) c.args.first c.args.end c.find.result
-    (first_from_Range _ _ _ _ (λ t. goal.F-post g c.args.passes t true) (λ t. goal.F-post g c.args.passes t false) c.find.ensures.ran
-    (λ x q k. search rules)
-    (λ x q k. (search rules, search rules)))
 
 pub returns-clause-lowest : goal.returns-clause-lowest
 returns-clause-lowest g c =

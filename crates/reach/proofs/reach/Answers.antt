@@ -10,10 +10,10 @@ loop-s-init g c =
     let x = g.G.SectionGraph.graph c.args.graph.now in
     let start = c.new-walk.result in
     let walk = c.enter_roots.new.self in (
-      rw (c.enter_roots.ensures.graph, c.new-walk.ensures.graph) refl,
+      rw (c.enter_roots.ensures.onward.graph, c.new-walk.ensures.graph) refl,
       rw c.new-walk.ensures.graph at c.enter_roots.ensures.taken,
-      followed_fresh x start.marks start.pending.items c.new-walk.ensures.fresh walk.marks walk.pending.items c.enter_roots.ensures.grown,
-      fresh_sized start.marks start.pending.items c.new-walk.ensures.fresh walk.marks walk.pending.items c.enter_roots.ensures.grown,
+      followed_fresh x start.marks start.pending.items c.new-walk.ensures.fresh walk.marks walk.pending.items c.enter_roots.ensures.onward.grown,
+      fresh_sized start.marks start.pending.items c.new-walk.ensures.fresh walk.marks walk.pending.items c.enter_roots.ensures.onward.grown,
     )
 
 pub invariant_of-walk-clause-entered : goal.invariant_of-walk-clause-entered
@@ -30,7 +30,7 @@ pub loop-s-smaller : goal.loop-s-smaller
 loop-s-smaller g c =
     let old = c.loop-s.walk in
     let new = c.follow.new.self in
-    measure_falls old.marks new.marks old.pending.items c.pop.new.self.items new.pending.items c.in-Some.s c.in-Some.ensures.items c.follow.ensures.grown
+    measure_falls old.marks new.marks old.pending.items c.pop.new.self.items new.pending.items c.in-Some.s c.in-Some.ensures.items c.follow.ensures.onward.grown
 
 pub loop-s-preserved : goal.loop-s-preserved
 loop-s-preserved g c =
@@ -38,8 +38,8 @@ loop-s-preserved g c =
     let old = c.loop-s.walk in
     let new = c.follow.new.self in
     let h = c.loop-s.invariant in
-    let grown = c.follow.ensures.grown in (
-      rw c.follow.ensures.graph h.0,
+    let grown = c.follow.ensures.onward.grown in (
+      rw c.follow.ensures.onward.graph h.0,
       taken_on (root_of x) old.marks new.marks grown.kept h.1,
       followed_more x old.marks new.marks old.pending.items c.pop.new.self.items new.pending.items c.in-Some.s c.in-Some.ensures.items grown
           (rw h.0 at c.follow.ensures.taken)

@@ -1,4 +1,4 @@
-use Rattle.std.proofs.Common.{◌≡◌, length, arith}
+use Rattle.std.proofs.Common.{◌≡◌, length, refl, arith}
 use Rattle.unfolding.specs.Reach.{reached}
 use Rattle.reach.proofs.Walking.{reached_small, room, here, enter_inside, enter_entered, enter_room, enter_grown}
 use Rattle.reach.proofs.Walk.enter.Goals as goal
@@ -41,12 +41,12 @@ invariant_of-self-clause-room g c =
     let sized : length w.marks ≡ 1024 = omega arith in
     enter_room w.marks c.mark.new.marks w.pending.items c.push.new.self.items c.args.s sized low c.if-not-self-s.true c.mark.ensures c.push.ensures.items w.room
 
-pub returns-then-not-self-s-clause-grown : goal.returns-then-not-self-s-clause-grown
-returns-then-not-self-s-clause-grown g c =
+pub returns-then-not-self-s-clause-onward : goal.returns-then-not-self-s-clause-onward
+returns-then-not-self-s-clause-onward g c =
     let w = c.args.self.now in
     let low = reached_small (g.G.SectionGraph.graph w.graph.now) (g.met.G.SectionGraph.valid w.graph.now) c.args.s c.requires in
     let sized : length w.marks ≡ 1024 = omega arith in
-    enter_grown w.marks c.mark.new.marks w.pending.items c.push.new.self.items c.args.s sized low c.if-not-self-s.true c.mark.ensures c.push.ensures.items
+    record { graph = refl; grown = enter_grown w.marks c.mark.new.marks w.pending.items c.push.new.self.items c.args.s sized low c.if-not-self-s.true c.mark.ensures c.push.ensures.items }
 
 pub returns-then-not-self-s-clause-here : goal.returns-then-not-self-s-clause-here
 returns-then-not-self-s-clause-here g c =

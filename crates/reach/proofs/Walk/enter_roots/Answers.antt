@@ -1,6 +1,7 @@
 use Rattle.std.proofs.Common.{sym, ◌∙◌, arith}
 use Rattle.model.specs.Graph.{root_of}
-use Rattle.reach.proofs.Walking.{root_reached, grown_on, taken_more, named, unnamed, taken_all, roots_past}
+use Rattle.reach.proofs.Walking.{root_reached, taken_more, named, unnamed, taken_all, roots_past}
+use Rattle.reach.proofs.Onward.{onward_on}
 use Rattle.reach.proofs.Walk.enter_roots.Goals as goal
 use Rattle.reach.proofs.Walk.enter_roots.Goals.{in-Some, in_default}
 
@@ -19,19 +20,17 @@ loop-j-preserved g c =
     elim c.match-root.branch [
       | in-Some w ↦
           let new = w.enter.new.self in
-          let grown = w.enter.ensures.grown in
-          let is = rw h.0 at (sym c.root.ensures ∙ w.in-Some.is) in
+          let is = rw h.0.graph at (sym c.root.ensures ∙ w.in-Some.is) in
           rw w.self-is (
-            w.enter.ensures.graph ∙ h.0,
-            grown_on start.marks old.marks new.marks start.pending.items old.pending.items new.pending.items h.1 grown,
-            taken_more roots old.marks new.marks j grown.kept (named (roots j) new.marks w.in-Some.s is w.enter.ensures.here) h.2,
+            onward_on start old new h.0 w.enter.ensures.onward,
+            taken_more roots old.marks new.marks j w.enter.ensures.onward.grown.kept (named (roots j) new.marks w.in-Some.s is w.enter.ensures.here) h.1,
           )
       | in_default w ↦
-          let is = rw h.0 at (sym c.root.ensures ∙ w.in_default.is) in
-          rw w.self-is (h.0, h.1, taken_more roots old.marks old.marks j (λ s m. m) (unnamed (roots j) old.marks is) h.2)
+          let is = rw h.0.graph at (sym c.root.ensures ∙ w.in_default.is) in
+          rw w.self-is (h.0, taken_more roots old.marks old.marks j (λ s m. m) (unnamed (roots j) old.marks is) h.1)
     ]
 
 pub returns-clause-taken : goal.returns-clause-taken
 returns-clause-taken g c =
     let x = g.G.SectionGraph.graph c.args.self.now.graph.now in
-    taken_all (root_of x) c.loop-j.self.marks c.loop-j.j (roots_past x c.loop-j.j (omega arith)) c.loop-j.invariant.2
+    taken_all (root_of x) c.loop-j.self.marks c.loop-j.j (roots_past x c.loop-j.j (omega arith)) c.loop-j.invariant.1

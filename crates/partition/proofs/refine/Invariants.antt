@@ -1,5 +1,0 @@
-use Rattle.partition.proofs.Turns.{Refining}
-use Rattle.partition.proofs.refine.Given as goal
-
-abbrev pub invariant-loop-s : goal.invariant-loop-s
-invariant-loop-s g l = Refining (g.G.SectionGraph.graph l.graph) l.old l.new l.s
