@@ -9,9 +9,9 @@ use Rattle.model.specs.Graph.{Body, told_relocation}
 use Rattle.graph.proofs.Places.{drop_nth, nth_none}
 use Rattle.unfolding.specs.Depth.{Arm, told_map, same_integer, same_list}
 use Rattle.unfolding.specs.Telling.{told_target}
-use Rattle.unfolding.specs.Sections.{Face, face_of, same_face, rules}
+use Rattle.unfolding.specs.Sections.{face_of, same_face}
 use Rattle.unfolding.proofs.Same.{decides_both, integer_decides}
-use Rattle.unfolding.proofs.Rules.{lawful_rules}
+use Rattle.unfolding.proofs.Rules.{face_decides}
 use Rattle.content.specs.Core.{unnamed, bare, same_outside, same_bare, Core, core_of, same_core, mixed_arm, mixed_arms}
 use Rattle.graph.specs.Bytes.{relocations_in}
 use Rattle.graph.proofs.Told.{relocation_nth}
@@ -54,10 +54,6 @@ links_decide (r ∷ rs) (q ∷ qs) =
     (λ a b i. a i ∷ b i)
     (λ e. cc)
     (λ e. cc)
-
-face_decides : (x y : Face) → Decides (same_face x y) (x ≡ y)
-unfolding rules
-face_decides x y = lawful_rules.faces x y
 
 pub core_decides : (a b : Option Body) → Decides (same_core a b) (core_of a ≡ core_of b)
 core_decides a b =

@@ -8,6 +8,8 @@ pub const MERGE: u64 = 0x10;
 
 pub const LINK_ORDER: u64 = 0x80;
 
+pub const GROUP: u64 = 0x200;
+
 pub const THREAD_LOCAL: u64 = 0x400;
 
 pub const RETAIN: u64 = 0x200000;

@@ -18,10 +18,9 @@ use Rattle.calls.specs.declared.Slot.TheVariants.{Untouched, Folded, Swept}
 use Rattle.calls.specs.declared.Place.TheVariants.{Absent}
 use Rattle.runs.specs.Drawn.{as_pinned}
 use Rattle.runs.specs.Laws.{pinned_record}
-use Rattle.runs.specs.State.{no_section, slot_of, found_at, place_of}
+use Rattle.runs.specs.State.{no_section, slot_of, untouched, found_at, place_of}
 use Rattle.runs.specs.Seen.{found_number, left_of, seen_section}
 use Rattle.runs.proofs.Seen.{seen_at}
-use Rattle.slots.specs.Turns.{untouched}
 use Rattle.ledger.specs.declared.Ledger.{Ledger}
 use Rattle.ledger.specs.Told.{bound_by, pinned, drawn_section, drawn_from, told}
 use Rattle.ledger.specs.Answers.{seen_record, seen_byte, seen_target, seen_relocation, added_root, seen_root, placed}

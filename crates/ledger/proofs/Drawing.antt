@@ -2,14 +2,16 @@
 use Rattle.std.proofs.Common.{◌≡◌, ℕ, ◌<◌, Bool, true, false, cond, eqb, List, [], ◌∷◌, ◌++◌, map, length, get_or, set, replicate, is_some, Some, None, Option, sym, refl, ap, ◌∙◌, subst, ⊎_elim, append_assoc}
 use Rattle.std.specs.Option.{option_map}
 use Rattle.std.proofs.lemmas.Bool.{cases_lt, cases_eq, eq-eqb, ne_eqb, cond-true, cond-false}
-use Rattle.std.proofs.lemmas.List.{append-nil, ext_get_or, get_or-replicate, get_or_past, get_or-set_same, get_or-set_other, length-replicate}
+use Rattle.std.proofs.lemmas.List.{append-nil, get_or-replicate, get_or_past, get_or-set_same, get_or-set_other, length-replicate}
 use Rattle.model.specs.declared.Target.{Target}
 use Rattle.model.specs.declared.Relocation.{Relocation}
 use Rattle.model.specs.Graph.{Body, Graph, section_of, count_of}
 use Rattle.unfolding.specs.Groups.{aimed_at, aimed, present}
 use Rattle.folding.proofs.Rebuilt.{rebuilt_at, rebuilt_length}
+use Rattle.folding.proofs.Aimed.{relocations_same}
 use Rattle.runs.specs.Drawn.{bound_target, bind, as_pinned, pin, root}
 use Rattle.runs.proofs.Draws.{bind_at, bind_count, pin_at, pin_count}
+use Rattle.runs.proofs.Noted.{same_graph}
 use Rattle.ledger.specs.declared.Ledger.{Ledger}
 use Rattle.ledger.specs.Edits.{fresh, with_bind, with_pin, with_root}
 use Rattle.ledger.specs.Told.{bound_by, pinned, drawn_section, drawn_from}
@@ -30,14 +32,10 @@ aimed_twice f h k same (Some b) =
     let rs = list_twice f h k same b.relocations in
     λ i. Some (record { flags = b.flags; alignment = b.alignment; bytes = b.bytes; setting = b.setting; relocations = rs i })
 
-list_same : (rs : List Relocation) → map (aimed_at (λ x. x)) rs ≡ rs
-list_same [] = refl
-list_same (r ∷ rs) = let rest = list_same rs in λ i. r ∷ rest i
-
 aimed_none : (o : Option Body) → option_map (aimed (λ x. x)) o ≡ o
 aimed_none None = refl
 aimed_none (Some b) =
-    let rs = list_same b.relocations in
+    let rs = relocations_same (λ x. x) (λ _. refl) b.relocations in
     λ i. Some (record { flags = b.flags; alignment = b.alignment; bytes = b.bytes; setting = b.setting; relocations = rs i })
 
 pinned_aimed :
@@ -80,16 +78,6 @@ drawn_present g t s = ap (λ (o : Option Body). is_some o) (drawn_at g t s) ∙ 
 pub drawn_roots : (g : Graph) (t : Ledger) → (drawn_from g t).roots ≡ g.roots ++ t.roots.items
 unfolding drawn_from
 drawn_roots g t = refl
-
-same_graph :
-    (g h : Graph) →
-    count_of g ≡ count_of h →
-    ((s : ℕ) → section_of g s ≡ section_of h s) →
-    g.roots ≡ h.roots →
-    g ≡ h
-same_graph g h count each roots =
-    let sections = ext_get_or None g.sections h.sections count (λ s _. each s) in
-    λ i. record { sections = sections i; roots = roots i }
 
 -- a new table
 

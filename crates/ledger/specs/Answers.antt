@@ -11,9 +11,8 @@ use Rattle.unfolding.specs.Reach.{has}
 use Rattle.calls.specs.declared.Place.{Place}
 use Rattle.calls.specs.declared.Place.TheVariants.{Absent}
 use Rattle.runs.specs.Laws.{pinned_record}
-use Rattle.runs.specs.State.{slot_of, found_at, check, closed_fault, no_section, bound_before, full}
+use Rattle.runs.specs.State.{slot_of, untouched, found_at, check, closed_fault, no_section, bound_before, full}
 use Rattle.runs.specs.Seen.{found_number}
-use Rattle.slots.specs.Turns.{untouched}
 use Rattle.ledger.specs.declared.Ledger.{Ledger}
 use Rattle.ledger.specs.Told.{bound_by, bound_names, pinned}
 

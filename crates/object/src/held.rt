@@ -15,8 +15,7 @@ ghost use Rattle.object.specs.Held.{held, unlisted, Told, Ready};
 ghost use Rattle.object.specs.Facts.{Seen, PartSeen};
 
 use arrayvec::ArrayVec;
-use elf::kind::NO_BITS;
-use elf::{Entry, Header, Symbol, read_entry, read_section, read_symbol};
+use elf::{Entry, Header, Symbol, flag, kind, read_entry, read_section, read_symbol};
 use fault::Fault;
 use field::read;
 use graph::SectionGraph;
@@ -184,7 +183,7 @@ impl<'a> Shown<'a> {
     {
         let h = self.header;
         Record {
-            flags: (h.flags - (h.flags & 0x200)) as u32,
+            flags: (h.flags - (h.flags & flag::GROUP)) as u32,
             alignment: h.alignment.max(1) as u32,
             size: h.size as u16,
             relocations: self.relocation_count(),
@@ -201,7 +200,7 @@ impl<'a> Shown<'a> {
         if i as u64 >= h.size {
             return None;
         }
-        if h.kind == NO_BITS {
+        if h.kind == kind::NO_BITS {
             return Some(0);
         }
         Some(self.object.file[(h.offset + i as u64) as usize])

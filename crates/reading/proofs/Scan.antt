@@ -6,6 +6,7 @@ use Rattle.std.specs.declared.ops.ControlFlow.TheVariants.{Continue, Break}
 use Rattle.field.specs.Uleb.{decoded, limited, misshapen, Gathered, gathered, none_yet}
 use Rattle.field.proofs.Onward.{prefixed, pending, Steps, stepped, some_taken}
 use Rattle.std.specs.List.{range_with_len}
+use Rattle.std.proofs.Math.Bool.{or_assoc}
 use Rattle.std.proofs.lemmas.Bool.{cases_eq, eq-eqb, ne_eqb, lt-ltb, le-ltb, cases_lt}
 use Rattle.std.proofs.lemmas.List.{drop_more, drop_all, length-replicate, get_or-replicate, length-set, get_or-set_same, get_or-set_other}
 use Rattle.std.proofs.lemmas.List.FromFn.{fill_by_all}
@@ -131,10 +132,6 @@ turned count o p x xs r l v b e = go (at_hand o p) r (unrolled o p x xs) (steppe
         in rw s.0 (s.1, s.2, u ∙ ap g s.3)
 
 -- the marks of sections, one symbol more
-
-or_assoc : (a d l : Bool) → ((a || d) || l) ≡ (a || (d || l))
-or_assoc true d l = refl
-or_assoc false d l = refl
 
 or_none : (a : Bool) → (a || false) ≡ a
 or_none true = refl

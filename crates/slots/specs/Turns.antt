@@ -14,11 +14,6 @@ Full x = length x.list ≡ 1024
 abbrev pub fresh : Slots
 fresh = record { list = replicate 1024 Untouched }
 
-abbrev pub untouched : Slot → Bool
-untouched Untouched = true
-untouched (Folded t) = false
-untouched Swept = false
-
 -- section s stays in a sweep: it is present and reached
 abbrev pub stays : List Bool → List Bool → ℕ → Bool
 stays there reached s = slice_index_or there s false && slice_index_or reached s false

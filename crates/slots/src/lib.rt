@@ -6,9 +6,9 @@ ghost use Rattle.std.specs.Prelude.{◌≡◌, ℕ, ◌<◌, ◌≤◌, Option, 
 ghost use Rattle.std.specs.Option.{option_map_or};
 ghost use Rattle.calls.specs.declared.Slot.{Slot};
 ghost use Rattle.calls.specs.declared.Place.TheVariants.{At, Swept as Nowhere};
-ghost use Rattle.runs.specs.State.{slot_of, found_at};
+ghost use Rattle.runs.specs.State.{slot_of, untouched, found_at};
 ghost use Rattle.runs.specs.Seen.{found_number};
-ghost use Rattle.slots.specs.Turns.{fresh, untouched, stays, drops, dropped_slot, leads, joins, joined_slot, Turned, stays_by, goes_by, slot_by};
+ghost use Rattle.slots.specs.Turns.{fresh, stays, drops, dropped_slot, leads, joins, joined_slot, Turned, stays_by, goes_by, slot_by};
 
 use calls::{Place, Slot};
 
