@@ -75,19 +75,16 @@ fn read_natural(text: &[u8]) -> Option<u64>
     }
 }
 
-// The number that the digits write. A closure of `try_fold` is not told how many digits were read, by which the sum is
-// bounded.
+// The number that the digits write.
 fn gather(text: &[u8]) -> Option<u64>
     requires { length text.now ≤ 18 }
     ensures value { result ≡ gathered 0 text.now }
     ensures small { IfSome result (λ n. n < 10 ^ 18) }
 {
-    let mut sum = 0;
-    for d in text {
+    text.iter().try_fold(0u64, |sum, d| {
         let digit = char::from(*d).to_digit(10)?;
-        sum = sum * 10 + u64::from(digit);
-    }
-    Some(sum)
+        Some(sum * 10 + u64::from(digit))
+    })
 }
 
 // How many digits a number is written with.

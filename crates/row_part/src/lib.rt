@@ -23,7 +23,7 @@ pub enum Cause {
     End,
 }
 
-// The byte at a place, 0 past the end. It is compared with letters and byte 10 alone, so 0 is as good as an option.
+// The byte at a place, 0 past the end. It is compared with byte 10 alone, so 0 is as good as an option.
 pub fn byte_at(text: &[u8], at: usize) -> u8
     ensures { result ≡ slice_index text.now at }
 {
@@ -34,10 +34,9 @@ pub fn byte_at(text: &[u8], at: usize) -> u8
 pub fn column_at<const WIDTH: usize>(text: &[u8], at: usize) -> Result<i64, Cause>
     ensures { result ≡ column_at WIDTH text.now at }
 {
-    match text.get(at..) {
-        Some(rest) if rest.len() >= WIDTH => read_column(&rest[..WIDTH]).ok_or(Cause::Column),
-        _ => Err(Cause::Column),
-    }
+    let rest = text.get(at..).ok_or(Cause::Column)?;
+    let column = rest.get(..WIDTH).ok_or(Cause::Column)?;
+    read_column(column).ok_or(Cause::Column)
 }
 
 // A natural number of 32 bits, not above the limit.
