@@ -216,7 +216,7 @@ impl<G: SectionGraph> Pile<G> {
     }
 
     // Makes each present section absent that no chain of relocations from a root reaches: how many are present now, and how many were
-    // dropped.
+    // dropped. The counts are a tuple, here and at a fold: a form that was asked for.
     pub fn sweep(&mut self) -> (u16, u16)
         ensures over { self.new.below ≡ self.old.below }
         ensures does { Does (G.SectionGraph.graph self.old.below) self.old.table self.new.table Sweep (Dropped result.0 result.1) }

@@ -9,6 +9,7 @@ use crate::{CALLER, call};
 use graph::SectionGraph;
 use model::{Record, Relocation, Setting};
 
+// Each question has a match of its own: a table of the six sections would say most of them twice, and be no plainer.
 #[derive(Drop)]
 pub struct Fork;
 

@@ -94,6 +94,7 @@ impl Slots {
     }
 
     // A sweep and a fold stay two functions, since they promise other things of other arguments; their loop is one, `turn`.
+    // Counts are tuples, here and in the crates above: a form that was asked for.
 
     // Sweeps the sections that are there and not reached: how many are left, and how many were swept.
     #[tactic(auto, using(crate::proofs::Turning::swept_by_rule))]
