@@ -42,7 +42,7 @@ pub trait SectionGraph {
         ensures { result ≡ root_of (graph self.now) j };
 
     // The digest of the bytes of section `s`, an absent one having none. By the questions alone; a reader may give it with work on
-    // its own slice. By a loop: a chain proves only by an answer that names its range, and an edit of that is refused in the proof file.
+    // its own slice. By a loop: a chain proved only by an answer that names its range, and an edit of that is refused in the proof file.
     fn byte_digest(&self, s: u16) -> u64
         ensures { result ≡ digest (bytes_of (graph self.now) s) }
     {
@@ -55,8 +55,8 @@ pub trait SectionGraph {
         digest
     }
 
-    // Whether sections `s` and `t` have the same bytes, an absent one having none. A reader may give it too. By a loop, as the digest: a
-    // chain of `all` proves only with a lemma and a long answer, and an edit of its range is then refused in the proof file.
+    // Whether sections `s` and `t` have the same bytes, an absent one having none. A reader may give it too. By a loop: three forms of a
+    // chain of `all` were tried, and the proof of none closed.
     fn same_bytes(&self, s: u16, t: u16) -> bool
         ensures { Decides result (bytes_of (graph self.now) s ≡ bytes_of (graph self.now) t) }
     {

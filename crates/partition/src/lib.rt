@@ -20,6 +20,7 @@ struct Base {
 }
 
 // A foldable section whose base is sought: the bases of the sections below it, and the digest of its content.
+// Apart from `Refinement`: here the bases are known below the section only.
 #[derive(Drop)]
 struct Sought<'a, G: SectionGraph> {
     graph: &'a G,

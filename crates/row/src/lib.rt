@@ -12,6 +12,7 @@ pub use row_part::Cause;
 use row_part::{alignment_at, byte_at, displacement_at, end_at, short_at, word_at};
 
 // A row of a table, with the part of the text that it occupies, byte 10 included.
+// `part` in each case: an enum whose cases borrow the text was asked for.
 #[derive(Clone, Copy, PartialEq, Eq, Debug)]
 pub enum Row<'a> {
     Header {
@@ -68,18 +69,19 @@ pub fn exact()
 {}
 
 // Reads the row that the text begins with, by its letter. What follows the row does not matter.
+// The letter by char literals: a form that was asked for.
 #[tactic(auto, using(crate::proofs::Rows::occupies), unfolding(crate::specs::Reading::read_row))]
 pub fn read_row(text: &[u8]) -> Result<Row<'_>, Cause>
     ensures row { answer result ≡ read_row text.now }
     ensures part { Occupies result }
 {
-    match text {
-        [b'H', ..] => read_header(text),
-        [b'S', ..] => read_section(text),
-        [b'B', ..] => read_bytes(text),
-        [b'R', ..] => read_relocation(text),
-        [b'T', ..] => read_root(text),
-        [b'E', ..] => read_end(text),
+    match char::from(byte_at(text, 0)) {
+        'H' => read_header(text),
+        'S' => read_section(text),
+        'B' => read_bytes(text),
+        'R' => read_relocation(text),
+        'T' => read_root(text),
+        'E' => read_end(text),
         _ => Err(Cause::Letter),
     }
 }

@@ -1,5 +1,6 @@
 // The parts of a row of a table: a number in its columns with its range, and the row's end. Each is read at a place of
-// a text, or what is bad there is told. The text and the place are two arguments: a struct of both would have no law.
+// a text, or what is bad there is told. The text and the place are two arguments: columns stand at fixed places of a row,
+// which each call names, so a struct of both would be made for one call.
 
 #![tactic(auto)]
 

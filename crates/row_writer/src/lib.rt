@@ -168,6 +168,7 @@ fn write_row<T: Cell>(letter: u8, cells: &[T], out: &mut [u8]) -> Result<usize, 
     ensures text { out.new ≡ put (row_text letter T.due (map T.integer cells.now)) out.old }
 {
     let needed = columns_length(cells) + 2;
+    // the test that the writer of a table makes of its table: a function for the two would be no shorter
     if out.len() < needed {
         return Err(Fault::new(Kind::Small, needed as u64, Layer::Output));
     }

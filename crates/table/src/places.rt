@@ -70,7 +70,8 @@ impl<'a> SectionRows<'a> {
         Some(record)
     }
 
-    // The number in the columns from a place on.
+    // The number in the columns from a place on. Apart from the `column_at` of `row_part`, which tells a cause: here none is told, and
+    // what is cut short is read as it is, since the text was accepted.
     fn column(&self, at: usize, width: usize) -> Option<i64>
         requires { width ≤ 18 }
         ensures { result ≡ read_column (take width (drop at self.now.text.now)) }
