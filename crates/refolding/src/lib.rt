@@ -23,16 +23,6 @@ pub enum Failure {
     Memory(AllocError),
 }
 
-impl From<AllocError> for Failure {
-    ghost use Rattle.refolding.specs.declared.Failure.TheVariants.{Memory};
-
-    ghost from_gives = { λ error r. r ≡ Memory error };
-
-    fn from(error: AllocError) -> Failure {
-        Failure::Memory(error)
-    }
-}
-
 // The refusal of a text that is too long.
 fn too_long() -> Fault
     ensures { result ≡ too_long }
@@ -64,5 +54,5 @@ pub fn refold(heap: Global, text: Vec<u8>) -> Result<Vec<u8>, Failure>
     }
     let mut table = Table::new(heap);
     table.read(text).map_err(|fault| refused(heap, &fault))?;
-    Ok(accepted(heap, table)?)
+    accepted(heap, table).map_err(Failure::Memory)
 }

@@ -12,13 +12,13 @@ ghost use Rattle.slots.specs.Turns.{fresh, stays, drops, dropped_slot, leads, jo
 
 use calls::{Place, Slot};
 
-// A slot for each section: untouched, folded into another, or swept.
+// A slot for each section: untouched, folded into another, or swept. An array of slot enums was asked for; memory is fixed.
 #[derive(Drop)]
 pub struct Slots {
     pub list: [Slot; 1024],
 }
 
-// Which sections are there, of those below `count`.
+// Which sections are there, of those below `count`: that is the graph's own count and no length, since there is a mark for each number.
 #[derive(Drop)]
 pub struct Present {
     pub there: [bool; 1024],

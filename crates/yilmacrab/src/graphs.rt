@@ -27,13 +27,9 @@ pub fn is_object(bytes: &[u8]) -> bool {
 fn outside_names<G: SectionGraph>(heap: Global, graph: &G) -> Result<usize, AllocError> {
     let mut names = BTreeSet::new(heap);
     for s in 0..graph.count() {
-        for j in 0..relocations_told(graph.record_of(s)) {
-            if let Some(name) = graph
-                .relocation(s, j)
-                .and_then(|told| told.target.outside())
-            {
-                names.insert(name)?;
-            }
+        let relocations = 0..relocations_told(graph.record_of(s));
+        for name in relocations.filter_map(|j| graph.relocation(s, j)?.target.outside()) {
+            names.insert(name)?;
         }
     }
     Ok(names.len())
