@@ -93,7 +93,8 @@ impl<'a, G: SectionGraph> Walk<'a, G> {
         }
     }
 
-    // Enters every root.
+    // Enters every root. By number, here and in `follow`: a `for` over `filter_map` was tried in three forms, and antt refuses what is
+    // stated of its loop, before any proof.
     fn enter_roots(&mut self)
         ensures onward { Onward self.old self.new }
         ensures taken { Taken (root_of (G.SectionGraph.graph self.old.graph.now)) self.new.marks }
