@@ -1,4 +1,5 @@
 // The flags of a section that a rule names.
+// Constants and no type of sets: the format's flags are open, and a header may have any others.
 
 pub const WRITE: u64 = 0x1;
 

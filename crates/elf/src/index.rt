@@ -1,4 +1,5 @@
 // The section indexes of symbols that stand for no section.
+// Constants and no enum: the format's numbers are open, and a symbol may have any other.
 
 pub const UNDEFINED: u16 = 0;
 

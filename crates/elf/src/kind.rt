@@ -1,4 +1,5 @@
 // The types of sections that a rule names.
+// Constants and no enum: the format's numbers are open, and a header may have any other.
 
 // no section
 pub const NULL: u32 = 0;

@@ -95,17 +95,12 @@ fn symbol_table(headers: Headers, symbol_section: Option<u16>) -> Result<Symbols
 }
 
 // Section `i` as one with relocations.
-fn part_of(
-    headers: Headers,
-    symbol_section: Option<u16>,
-    parts: &[Option<u16>; 1024],
-    i: u16,
-) -> Result<Option<Part>, Fault>
-    requires below { i < headers.count }
-    requires found { symbol_section ≡ table_in headers.bytes.now }
-    requires parted { Parted headers.bytes.now i parts.now }
-    ensures { result ≡ answer (first_fault (part_checks headers.entry.bytes.now i (place headers.entry.bytes.now i) (section headers.entry.bytes.now i))) (told_part headers.entry.bytes.now (section headers.entry.bytes.now i)) }
+fn part_of(object: Contained, parts: &[Option<u16>; 1024], i: u16) -> Result<Option<Part>, Fault>
+    requires below { i < object.tables.headers.count }
+    requires parted { Parted object.tables.headers.bytes.now i parts.now }
+    ensures { result ≡ answer (first_fault (part_checks object.entry.tables.headers.bytes.now i (place object.entry.tables.headers.bytes.now i) (section object.entry.tables.headers.bytes.now i))) (told_part object.entry.tables.headers.bytes.now (section object.entry.tables.headers.bytes.now i)) }
 {
+    let headers = object.tables.headers;
     let placed = headers.placed(i);
     let h = placed.header;
     if !relocating(h) {
@@ -119,7 +114,7 @@ fn part_of(
         return Ok(None);
     }
     let taken = noted(parts, h.info);
-    let linked = is_number(symbol_section, h.link);
+    let linked = is_number(object.symbol_section, h.link);
     let count = placed.relocation_count(taken, linked)?;
     Ok(Some(Part {
         target: h.info,
@@ -137,7 +132,7 @@ fn relocations(object: Contained) -> Result<[Option<u16>; 1024], Fault>
     let mut refused = None;
     // nested loops, left by the label at the first fault: a form that was asked for
     'reading: for i in 0..object.tables.headers.count {
-        match part_of(object.tables.headers, object.symbol_section, &parts, i) {
+        match part_of(object, &parts, i) {
             Err(f) => {
                 refused = Some(f);
                 break 'reading;
@@ -226,7 +221,7 @@ fn significance(
 fn roots(headers: Headers) -> ArrayVec<u16, 1024>
     ensures { result.items ≡ roots headers.entry.bytes.now }
 {
-    // not `collect`: it asks for an allocator, and below the programs there is none
+    // not `collect`, which asks for an allocator, nor `extend`, whose error would have to be shown not to come
     let mut found = ArrayVec::new();
     for i in 0..headers.count {
         if headers.section(i).is_root() {

@@ -11,7 +11,7 @@ ghost use Rattle.rules.specs.Listing.{number_checks, marked};
 ghost use Rattle.rules.specs.Rules.{fault_at, cut_at, identified as identified_by, head_rule, extent_checks, content_checks, only_checks, earlier, is_number, fit_checks, symbol, symbols as symbols_in, reached, entry_checks, relocating as relocating_header, table_checks, symbol_checks};
 
 use arrayvec::ArrayVec;
-use elf::{Entry, Header, Symbol, aligned, index, kind, read_entry, read_header, read_symbol};
+use elf::{Header, Symbol, aligned, index, kind, read_entry, read_header, read_symbol};
 use fault::{Fault, Kind, Layer};
 use field::{Number, read};
 
@@ -34,7 +34,7 @@ pub struct Part {
 
 // What is noted of an object. `parts` has for each section the number of the section with its relocations; `listed` says,
 // where there is an address-significance table, in which sections it lists a symbol; the roots ascend.
-#[derive(Drop)]
+#[derive(Drop, PartialEq, Eq, Debug)]
 pub struct Notes {
     pub symbols: Symbols,
     pub parts: [Option<u16>; 1024],
@@ -165,7 +165,7 @@ impl<'a> Headers<'a> {
         }
     }
 
-    // The symbol `s`, which stands at `q`.
+    // The symbol `s`, which stands at `q`. No struct holds a place and its bound: each is made for one call and used up there.
     pub fn symbol_rule(self, q: u64, s: Symbol) -> Result<(), Fault>
         requires { q + 24 ≤ length self.bytes.now }
         ensures { result ≡ answer (first_fault (symbol_checks self.entry.bytes.now q s)) tt }
@@ -305,11 +305,12 @@ impl<'a> SymbolTable<'a> {
 }
 
 impl<'a> Tables<'a> {
-    // The relocation entry `e`, which stands at `q`, of a section of some size.
-    fn entry_rule(self, size: u64, q: u64, e: Entry) -> Result<(), Fault>
+    // The relocation entry at `q`, of a section of some size.
+    pub fn entry_at(self, size: u64, q: u64) -> Result<(), Fault>
         requires { q + 24 ≤ length self.headers.bytes.now }
-        ensures { result ≡ answer (first_fault (entry_checks self.entry.headers.bytes.now size q e)) tt }
+        ensures { result ≡ answer (first_fault (entry_checks self.entry.headers.bytes.now size q (entry_at self.entry.headers.bytes.now q))) tt }
     {
+        let e = read_entry(self.headers.bytes, q)?;
         if e.offset >= size {
             return Err(refusal(Kind::Misshapen, q));
         }
@@ -321,15 +322,6 @@ impl<'a> Tables<'a> {
             return Err(refusal(Kind::Misshapen, q + 16));
         }
         Ok(())
-    }
-
-    // The relocation entry at `q`, of a section of some size.
-    pub fn entry_at(self, size: u64, q: u64) -> Result<(), Fault>
-        requires { q + 24 ≤ length self.headers.bytes.now }
-        ensures { result ≡ answer (first_fault (entry_checks self.entry.headers.bytes.now size q (entry_at self.entry.headers.bytes.now q))) tt }
-    {
-        let e = read_entry(self.headers.bytes, q)?;
-        self.entry_rule(size, q, e)
     }
 }
 
