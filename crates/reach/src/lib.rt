@@ -93,8 +93,8 @@ impl<'a, G: SectionGraph> Walk<'a, G> {
         }
     }
 
-    // Enters every root. By number, here and in `follow`: a `for` over `filter_map` was tried in three forms, and antt refuses what is
-    // stated of its loop, before any proof.
+    // Enters every root. By number, here and in `follow`: a `for` over `filter_map` was tried in four forms, and antt refuses the
+    // `iterator-loop-s` that its invariant would name.
     fn enter_roots(&mut self)
         ensures onward { Onward self.old self.new }
         ensures taken { Taken (root_of (G.SectionGraph.graph self.old.graph.now)) self.new.marks }
