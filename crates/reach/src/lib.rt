@@ -93,8 +93,8 @@ impl<'a, G: SectionGraph> Walk<'a, G> {
         }
     }
 
-    // Enters every root. By number, here and in `follow`: a `for` over `filter_map` was tried in four forms, and antt refuses the
-    // `iterator-loop-s` that its invariant would name.
+    // Enters every root. By number, here and in `follow`: a `for` over `filter_map` was tried in four forms, and its proof did not
+    // close, as antt refuses the module that states its goals.
     fn enter_roots(&mut self)
         ensures onward { Onward self.old self.new }
         ensures taken { Taken (root_of (G.SectionGraph.graph self.old.graph.now)) self.new.marks }
