@@ -221,7 +221,7 @@ fn significance(
 fn roots(headers: Headers) -> ArrayVec<u16, 1024>
     ensures { result.items ≡ roots headers.entry.bytes.now }
 {
-    // not `collect`, which asks for an allocator, nor `extend`, whose error would have to be shown not to come
+    // not `collect`, which asks for an allocator, nor `extend`: tried, and the proof that its error never comes did not close
     let mut found = ArrayVec::new();
     for i in 0..headers.count {
         if headers.section(i).is_root() {
