@@ -8,6 +8,7 @@ ghost use Rattle.pieces.specs.Writes.{Writes};
 ghost use Rattle.runs.specs.State.{place_of};
 ghost use Rattle.ledger.specs.Told.{told};
 ghost use Rattle.foldmap.specs.Map.{told_at, told_of, row_of, map_text};
+ghost use Rattle.foldmap.specs.Laws.{RowsStand};
 ghost use Rattle.foldmap.specs.Examples.{ExamplesHold};
 
 use calls::Place;
@@ -88,6 +89,12 @@ pub fn write_map<G: SectionGraph>(pile: &Pile<G>, out: &mut [u8]) -> Result<usiz
     }
     write_rows(pile, out)
 }
+
+// Exactly the sections that are present below have a row.
+#[tactic(auto, using(crate::proofs::Rows::rows_stand))]
+pub fn rows_stand()
+    ensures { RowsStand }
+{}
 
 // The maps of three small piles, byte for byte.
 #[tactic(auto, using(crate::proofs::Examples::examples_hold))]
