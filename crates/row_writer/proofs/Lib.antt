@@ -1,3 +1,4 @@
 pub mod Puts
 mod Widths
 mod Filled
+pub mod Moved

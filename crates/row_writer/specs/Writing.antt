@@ -6,6 +6,8 @@ use Rattle.fault.specs.declared.Kind.TheVariants.{Small}
 use Rattle.fault.specs.declared.Layer.TheVariants.{Output}
 use Rattle.fault.specs.Numbers.{kind_number, layer_number}
 use Rattle.column.specs.Columns.{column, columns}
+use Rattle.row_writer.specs.declared.Outcome.{Outcome}
+use Rattle.row_writer.specs.declared.Outcome.TheVariants.{Own, Other, Swept}
 use Rattle.row_writer.specs.declared.Number.{Number}
 use Rattle.row_writer.specs.declared.Number.TheVariants.{Natural, Signed}
 
@@ -48,3 +50,13 @@ pub record Wide (w : ℕ) (z : ℤ) (r : ℕ) : Type 0 where
 -- the row that tells a refusal: its number, its place and the number of its layer
 abbrev pub fault_row : Fault → List ℕ
 fault_row f = row_text 70 12 (pos (kind_number f.kind) ∷ pos f.place ∷ pos (layer_number f.layer) ∷ [])
+
+-- the number of an outcome in a fold map
+abbrev pub outcome_number : Outcome → ℕ
+outcome_number Own = 1
+outcome_number Other = 2
+outcome_number Swept = 3
+
+-- the row of a fold map: a section's number, its outcome and its place
+abbrev pub moved_row : ℕ → Outcome → ℕ → List ℕ
+moved_row s outcome p = row_text 77 12 (pos s ∷ pos (outcome_number outcome) ∷ pos p ∷ [])

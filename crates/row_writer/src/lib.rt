@@ -9,7 +9,7 @@ ghost use Rattle.std.specs.Fmt.{signed_decimal};
 ghost use Rattle.column.specs.Columns.{column, columns};
 ghost use Rattle.row.specs.Entry.{header, section, bytes, relocation as relocated, root, end, render, target_kind, target_number};
 ghost use Rattle.row_writer.specs.declared.Number.TheVariants.{Natural, Signed};
-ghost use Rattle.row_writer.specs.Writing.{wrote, put, over, row_text, value, fault_row, Wide};
+ghost use Rattle.row_writer.specs.Writing.{wrote, put, over, row_text, value, fault_row, moved_row, Wide};
 
 use column::{digits, write_column, write_natural};
 use fault::{Fault, Kind, Layer};
@@ -61,6 +61,17 @@ impl From<i64> for Number {
     fn from(z: i64) -> Number {
         Number::Signed(z)
     }
+}
+
+// What a fold map tells of a section, with the number that it has there.
+#[derive(Clone, Copy, PartialEq, Eq, Debug)]
+pub enum Outcome {
+    // it is found at its own number
+    Own = 1,
+    // at another
+    Other = 2,
+    // nowhere: it was swept
+    Swept = 3,
 }
 
 // How many bytes a number is written with, its minus included.
@@ -255,6 +266,24 @@ pub fn write_fault(fault: &Fault, out: &mut [u8]) -> Result<usize, Fault>
         Number::from(u8::from(fault.layer)),
     ];
     write_row(b'F', &cells, out)
+}
+
+// The M row, which tells in a fold map where a section went.
+pub fn write_moved(
+    section: u16,
+    outcome: Outcome,
+    place: u16,
+    out: &mut [u8],
+) -> Result<usize, Fault>
+    ensures answer { result ≡ wrote (moved_row section outcome place) out.old }
+    ensures text { out.new ≡ put (moved_row section outcome place) out.old }
+{
+    let cells = [
+        Number::from(section),
+        Number::from(outcome as u8),
+        Number::from(place),
+    ];
+    write_row(b'M', &cells, out)
 }
 
 // The B row of the first sixteen values, as many as a row takes.

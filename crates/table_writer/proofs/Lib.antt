@@ -1,3 +1,2 @@
-mod Writing
 mod Texts
 mod Lengths

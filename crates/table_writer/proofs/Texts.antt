@@ -17,8 +17,8 @@ use Rattle.layout.proofs.Only.{with_bytes_some}
 use Rattle.graph.proofs.Places.{drop_nth, nth_none}
 use Rattle.graph.specs.Bytes.{bytes_in, relocations_in}
 use Rattle.table_writer.specs.Texts.{byte_row, relocation_row, root_row, bytes_text, relocations_text, section_text, sections_text, roots_text}
-use Rattle.table_writer.specs.Writes.{pieces}
-use Rattle.table_writer.proofs.Writing.{in_pieces}
+use Rattle.pieces.specs.Writes.{pieces}
+use Rattle.pieces.proofs.Writing.{in_pieces}
 
 -- further rows come behind
 

@@ -2,19 +2,19 @@
 
 #![tactic(auto)]
 
-ghost use Rattle.std.specs.Prelude.{◌≡◌, ℕ, ◌+◌, ◌*◌, ◌<◌, ◌≤◌, List, ◌++◌, length, Some};
-ghost use Rattle.std.specs.Borrow.{MutBor};
+ghost use Rattle.std.specs.Prelude.{◌≡◌, ◌+◌, ◌*◌, ◌<◌, ◌≤◌, ◌++◌, length, Some};
 ghost use Rattle.model.specs.Graph.{section_of, record_of, relocation_of, root_of, root_count_of};
 ghost use Rattle.row_writer.specs.Writing.{wrote, put};
 ghost use Rattle.layout.specs.Layout.{text_of, present_count};
 ghost use Rattle.graph.specs.Bytes.{bytes_of, relocations_in};
 ghost use Rattle.table_writer.specs.Texts.{bytes_text, relocations_text, section_text, sections_text, roots_text, byte_row, relocation_row, root_row};
-ghost use Rattle.table_writer.specs.Writes.{Writes, Written, pieces, EachWrites};
+ghost use Rattle.pieces.specs.Writes.{Writes, Written};
 
 use fault::{Fault, Kind, Layer};
 use graph::SectionGraph;
 use layout::{END_ROW, HEADER_ROW, ROOT_ROW, relocation_place};
 use model::Record;
+use pieces::write_each;
 use row_writer::{
     write_bytes, write_end, write_header, write_relocation, write_root, write_section,
 };
@@ -47,23 +47,6 @@ fn present<G: SectionGraph>(graph: &G) -> u16
     (0..graph.count())
         .map(|s| u16::from(graph.record_of(s).is_some()))
         .sum()
-}
-
-// Writes the pieces of a text, each behind the last. A `for`: the writers take the part where the last row ended.
-fn write_each<F: Fn(u16, &mut [u8]) -> Result<usize, Fault>>(
-    count: u16,
-    out: &mut [u8],
-    write: F,
-) -> Result<usize, Fault>
-    requires callable { (k : ℕ) (part : MutBor (List ℕ)) → k < count → F.pre write k part }
-    requires writes { (piece : ℕ → List ℕ) × EachWrites (F.post write) count piece }
-    ensures { (piece : ℕ → List ℕ) → EachWrites (F.post write) count piece → Writes (pieces piece count) out.old out.new result }
-{
-    let mut at = 0;
-    for k in 0..count {
-        at += write(k, &mut out[at..])?;
-    }
-    Ok(at)
 }
 
 // A present section whose rows are written, and what is told of it.
@@ -175,7 +158,7 @@ fn write_roots<G: SectionGraph>(graph: &G, out: &mut [u8]) -> Result<usize, Faul
 }
 
 // Writes the rows of a table between its first and its last: those of the sections, then those of the roots.
-#[tactic(auto, using(crate::proofs::Writing::first_within, crate::proofs::Writing::both_within, crate::proofs::Writing::both_done, crate::proofs::Writing::second_stopped, crate::proofs::Writing::first_stopped))]
+#[tactic(auto, using(pieces::proofs::Writing::first_within, pieces::proofs::Writing::both_within, pieces::proofs::Writing::both_done, pieces::proofs::Writing::second_stopped, pieces::proofs::Writing::first_stopped))]
 fn write_body<G: SectionGraph>(graph: &G, out: &mut [u8]) -> Result<usize, Fault>
     ensures { Written (sections_text 0 (G.SectionGraph.graph graph.now).sections ++ roots_text (G.SectionGraph.graph graph.now).roots) out.old out.new result }
 {
@@ -196,7 +179,7 @@ fn write_rows<G: SectionGraph>(graph: &G, out: &mut [u8]) -> Result<usize, Fault
 
 // Writes the table of a section graph over the front of the buffer, and answers how long it is. What stands behind it in
 // the buffer stays. A buffer that is too short is refused with the length needed before anything is written.
-#[tactic(auto, using(crate::proofs::Writing::refused_short, crate::proofs::Writing::kept_short, crate::proofs::Writing::answered, crate::proofs::Writing::stands))]
+#[tactic(auto, using(pieces::proofs::Writing::refused_short, pieces::proofs::Writing::kept_short, pieces::proofs::Writing::answered, pieces::proofs::Writing::stands))]
 pub fn write_table<G: SectionGraph>(graph: &G, out: &mut [u8]) -> Result<usize, Fault>
     ensures answer { result ≡ wrote (text_of (G.SectionGraph.graph graph.now)) out.old }
     ensures text { out.new ≡ put (text_of (G.SectionGraph.graph graph.now)) out.old }

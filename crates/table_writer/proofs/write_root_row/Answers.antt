@@ -1,7 +1,7 @@
 use Rattle.std.proofs.Common.{sym, subst, ◌∙◌}
 use Rattle.table_writer.specs.Texts.{root_row}
-use Rattle.table_writer.specs.Writes.{Writes}
-use Rattle.table_writer.proofs.Writing.{row_written}
+use Rattle.pieces.specs.Writes.{Writes}
+use Rattle.pieces.proofs.Writing.{row_written}
 use Rattle.table_writer.proofs.write_root_row.Goals as goal
 
 pub returns : goal.returns

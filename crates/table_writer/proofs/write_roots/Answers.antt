@@ -1,7 +1,7 @@
 use Rattle.std.proofs.Common.{subst, ap, ◌∙◌, rules}
 use Rattle.std.specs.List.{slice_get}
 use Rattle.table_writer.specs.Texts.{root_row}
-use Rattle.table_writer.specs.Writes.{Writes, pieces}
+use Rattle.pieces.specs.Writes.{Writes, pieces}
 use Rattle.table_writer.proofs.Texts.{roots_pieces}
 use Rattle.table_writer.proofs.write_roots.Goals as goal
 

@@ -3,7 +3,7 @@ use Rattle.std.proofs.lemmas.Result.{err_from_is_err_and}
 use Rattle.layout.specs.Layout.{present_count}
 use Rattle.row.specs.Entry.{render, header, end}
 use Rattle.table_writer.specs.Texts.{sections_text, roots_text}
-use Rattle.table_writer.proofs.Writing.{row_written, row_ok, row_err, restated, both_ok, both_err, both_end, first_ends, stopped_before, as_writes}
+use Rattle.pieces.proofs.Writing.{row_written, row_ok, row_err, restated, both_ok, both_err, both_end, first_ends, stopped_before, as_writes}
 use Rattle.table_writer.proofs.Texts.{table_parts}
 use Rattle.table_writer.proofs.write_rows.Goals as goal
 

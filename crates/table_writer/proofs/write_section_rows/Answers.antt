@@ -1,6 +1,6 @@
 use Rattle.std.proofs.Common.{sym, ◌∙◌}
 use Rattle.model.specs.Graph.{section_of}
-use Rattle.table_writer.proofs.Writing.{none_written, restated}
+use Rattle.pieces.proofs.Writing.{none_written, restated}
 use Rattle.table_writer.proofs.Texts.{section_none}
 use Rattle.table_writer.proofs.write_section_rows.Goals as goal
 

@@ -1,6 +1,6 @@
 use Rattle.std.proofs.Common.{None, get_or, subst, ap, ◌∙◌, rules}
 use Rattle.table_writer.specs.Texts.{section_text}
-use Rattle.table_writer.specs.Writes.{Writes, pieces}
+use Rattle.pieces.specs.Writes.{Writes, pieces}
 use Rattle.table_writer.proofs.Texts.{sections_pieces}
 use Rattle.table_writer.proofs.write_sections.Goals as goal
 

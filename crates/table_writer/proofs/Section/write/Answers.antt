@@ -4,7 +4,7 @@ use Rattle.model.specs.Graph.{section_of}
 use Rattle.row.specs.Entry.{render, section}
 use Rattle.graph.specs.Bytes.{bytes_in, relocations_in}
 use Rattle.table_writer.specs.Texts.{bytes_text, relocations_text}
-use Rattle.table_writer.proofs.Writing.{row_ok, row_err, restated, both_ok, both_err, both_end, first_ends, stopped_before}
+use Rattle.pieces.proofs.Writing.{row_ok, row_err, restated, both_ok, both_err, both_end, first_ends, stopped_before}
 use Rattle.table_writer.proofs.Texts.{section_told}
 use Rattle.table_writer.proofs.Section.write.Goals as goal
 

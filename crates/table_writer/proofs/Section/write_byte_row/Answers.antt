@@ -3,8 +3,8 @@ use Rattle.std.specs.List.{slice_get}
 use Rattle.model.specs.Graph.{section_of}
 use Rattle.row.specs.Entry.{render, bytes}
 use Rattle.graph.specs.Bytes.{bytes_in}
-use Rattle.table_writer.specs.Writes.{Writes}
-use Rattle.table_writer.proofs.Writing.{row_written}
+use Rattle.pieces.specs.Writes.{Writes}
+use Rattle.pieces.proofs.Writing.{row_written}
 use Rattle.table_writer.proofs.Texts.{row_gathered, each_made, section_told}
 use Rattle.table_writer.proofs.Section.write_byte_row.Goals as goal
 

@@ -2,7 +2,7 @@ use Rattle.std.proofs.Common.{◌≡◌, length, subst, arith, rules}
 use Rattle.model.specs.Graph.{section_of}
 use Rattle.graph.specs.Bytes.{bytes_in}
 use Rattle.table_writer.specs.Texts.{byte_row}
-use Rattle.table_writer.specs.Writes.{Writes}
+use Rattle.pieces.specs.Writes.{Writes}
 use Rattle.table_writer.proofs.Texts.{bytes_pieces, section_told}
 use Rattle.table_writer.proofs.Section.write_byte_rows.Goals as goal
 

@@ -1,7 +1,7 @@
 use Rattle.std.proofs.Common.{subst, ap, ◌∙◌, rules}
 use Rattle.model.specs.Graph.{section_of, told_relocation}
 use Rattle.table_writer.specs.Texts.{relocation_row}
-use Rattle.table_writer.specs.Writes.{Writes, pieces}
+use Rattle.pieces.specs.Writes.{Writes, pieces}
 use Rattle.table_writer.proofs.Texts.{relocations_pieces, section_told}
 use Rattle.table_writer.proofs.Section.write_relocation_rows.Goals as goal
 

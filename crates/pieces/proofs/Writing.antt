@@ -1,14 +1,15 @@
 -- Texts written over the front of a buffer, one behind the other.
 use Rattle.std.proofs.Common.{◌≡◌, ℕ, zero, suc, ◌+◌, ◌-◌, ◌<◌, ◌≤◌, ◌⊎◌, List, [], ◌++◌, length, Ok, Err, Result, IfOk, sym, refl, ap, subst, ◌∙◌, inl, inr, append_assoc, add-one, arith}
 use borrow.Rule.Slice.PartMut.{put_mid, same_len_mid}
-use Rattle.std.specs.List.{between}
+use Rattle.std.specs.List.{between, range_with_len, sum_by}
+use Rattle.std.proofs.lemmas.List.Sums.{sum_by-cons}
 use Rattle.std.proofs.lemmas.List.{append-nil, length-append, length-drop}
 use Rattle.std.proofs.lemmas.Slice.{between_to_end}
 use Rattle.std.proofs.lemmas.Bool.{cases_lt}
 use Rattle.fault.specs.declared.Fault.{Fault}
 use Rattle.row_writer.specs.Writing.{small, wrote, over, put, put_at}
 use Rattle.row_writer.proofs.Puts.{wrote_fits, wrote_short, put_fits, put_short, length_over, put_at_start, put_at_put_at, put_lent}
-use Rattle.table_writer.specs.Writes.{Writes, Written, pieces}
+use Rattle.pieces.specs.Writes.{Writes, Written, pieces}
 
 -- what the writer of a row writes
 pub row_written : (row old new : List ℕ) (answer : Result ℕ Fault) → answer ≡ wrote row old → new ≡ put row old → Writes row old new answer
@@ -184,3 +185,26 @@ before piece rest (suc k) more =
 pub in_pieces : (piece rest : ℕ → List ℕ) (n : ℕ) → ((k : ℕ) → k < n → rest k ≡ piece k ++ rest (k + 1)) → rest n ≡ [] → pieces piece n ≡ rest 0
 in_pieces piece rest n more none =
     sym (append-nil (pieces piece n)) ∙ ap (λ t. pieces piece n ++ t) (sym none) ∙ before piece rest n more
+
+-- the lengths of the pieces add up
+
+lengths_from : (piece : ℕ → List ℕ) (n s : ℕ)
+    → length (pieces piece s) + sum_by (λ k. length (piece k)) (range_with_len s n) ≡ length (pieces piece (s + n))
+lengths_from piece zero s =
+    let same : s + 0 ≡ s = omega arith in
+    omega (arith, ap (λ j. length (pieces piece j)) same)
+lengths_from piece (suc n) s =
+    let next : s + 1 + n ≡ s + suc n = omega arith in
+    omega (
+      arith,
+      sum_by-cons (λ k. length (piece k)) s (range_with_len (s + 1) n),
+      lengths_from piece n (s + 1),
+      ap length (pieces_more piece s),
+      length-append (pieces piece s) (piece s),
+      ap (λ j. length (pieces piece j)) next,
+    )
+
+pub lengths_added : (piece : ℕ → List ℕ) (n : ℕ) → sum_by (λ k. length (piece k)) (range_with_len 0 n) ≡ length (pieces piece n)
+lengths_added piece n =
+    let all : 0 + n ≡ n = omega arith in
+    omega (arith, lengths_from piece n 0, ap (λ j. length (pieces piece j)) all)

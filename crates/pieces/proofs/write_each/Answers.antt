@@ -1,8 +1,8 @@
 use Rattle.std.proofs.Common.{◌≡◌, ◌+◌, ◌≤◌, ◌++◌, length, Ok, subst, sym, arith, rules}
 use Rattle.std.proofs.lemmas.Result.{err_from_is_err_and}
-use Rattle.table_writer.specs.Writes.{Writes, pieces}
-use Rattle.table_writer.proofs.Writing.{none_written, both_ok, both_err, both_end, first_ends, stopped, pieces_more, pieces_grow}
-use Rattle.table_writer.proofs.write_each.Goals as goal
+use Rattle.pieces.specs.Writes.{Writes, pieces}
+use Rattle.pieces.proofs.Writing.{both_ok, both_err, both_end, first_ends, stopped, pieces_more, pieces_grow}
+use Rattle.pieces.proofs.write_each.Goals as goal
 
 pub slice_bounds-write-count : goal.slice_bounds-write-count
 slice_bounds-write-count g c = let p = c.requires.writes in first_ends (c.loop-k.invariant p.0 p.1)
@@ -34,9 +34,6 @@ pub loop-k-preserved : goal.loop-k-preserved
 loop-k-preserved g c piece each =
     let v = each c.loop-k.k _ _ c.write.result c.write.ensures c.loop-k-test.true in
     rw pieces_more (both_ok (c.loop-k.invariant piece each) v c.in_ok-at.was)
-
-pub loop-k-init : goal.loop-k-init
-loop-k-init g c piece each = none_written c.args.out.now
 
 pub returns : goal.returns
 returns g c piece each =

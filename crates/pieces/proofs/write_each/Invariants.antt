@@ -1,6 +1,6 @@
 use Rattle.std.proofs.Common.{ℕ, List, Ok}
-use Rattle.table_writer.specs.Writes.{Writes, pieces, EachWrites}
-use Rattle.table_writer.proofs.write_each.Given as goal
+use Rattle.pieces.specs.Writes.{Writes, pieces, EachWrites}
+use Rattle.pieces.proofs.write_each.Given as goal
 
 -- the pieces before k are written
 abbrev pub invariant-loop-k : goal.invariant-loop-k
