@@ -29,7 +29,7 @@ pub enum Order {
 }
 
 // A line as what it asks for, if it is an order.
-pub fn order(line: &str) -> Option<Order> {
+pub fn read_order(line: &str) -> Option<Order> {
     let (verb, rest) = line.split_once(' ').unwrap_or((line, ""));
     let call = match verb {
         "bind" => {
@@ -54,6 +54,7 @@ pub fn order(line: &str) -> Option<Order> {
 }
 
 // A refusal in a line.
+#[derive(Clone, Copy)]
 struct Refused(Fault);
 
 impl fmt::Display for Refused {

@@ -7,7 +7,7 @@ use std::{fmt, fs, io};
 use texts::table_text;
 
 // A line for people: on standard output where the table goes to a file, and else on standard error.
-pub fn say<D: fmt::Display>(rt: &HostRuntime, options: &Options, line: D) -> io::Result<()> {
+pub fn say<D: fmt::Display + Drop>(rt: &HostRuntime, options: &Options, line: D) -> io::Result<()> {
     if options.output.is_some() {
         println!(rt; "{line}")
     } else {

@@ -1,7 +1,7 @@
 // `run`: calls from standard input, a line each, on one pile over a file.
 use crate::graphs::{is_object, load};
 use crate::input::{read_object, read_table};
-use crate::lines::{Done, Found, Order, order};
+use crate::lines::{Done, Found, Order, read_order};
 use crate::options::Options;
 use anyhow::{Context, ensure};
 use graph::SectionGraph;
@@ -37,7 +37,7 @@ fn run_graph<G: SectionGraph + Drop>(
 ) -> anyhow::Result<()> {
     let mut pile = Pile::new(below);
     for (i, line) in calls.lines().enumerate() {
-        let wanted = order(line).context(format_args!("line {} is no call: {line}", i + 1))?;
+        let wanted = read_order(line).context(format_args!("line {} is no call: {line}", i + 1))?;
         perform(rt, &mut pile, wanted)?;
     }
     if let Some(path) = &options.output {
