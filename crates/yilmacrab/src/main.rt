@@ -3,26 +3,39 @@
 #![tactic(auto)]
 
 mod check;
+mod fold;
 mod graphs;
 mod input;
+mod lines;
 mod options;
 mod output;
 mod refusal;
+mod run;
 mod stale;
 mod table_of;
 
 use anyhow::bail;
-use options::read_options;
+use options::{read_options, read_wanted};
 use std::env;
 use std::env::Args;
 use std::process::ExitCode;
 
 const HELP: &str = "usage: yilmacrab check [FILE]
        yilmacrab table [FILE] [-o TABLE]
+       yilmacrab fold [FILE] [--bind NAME=SECTION] [--pin SECTION]
+                 [--root SECTION] [-o TABLE]
+       yilmacrab run FILE [-o TABLE]
 
   check   read an ELF64 object or a section table and say what it holds; a table
           is written again and compared
   table   read an ELF64 object or a section table and write its section table
+  fold    read a file, do the binds, pins and roots in the order given, sweep and
+          fold, and write the section table of what is left
+  run     read a file, and from standard input calls, a line each: bind NAME
+          SECTION, pin SECTION, root SECTION, sweep, fold, place SECTION; do them
+          in order and print what each answers: ok, refused with number, place
+          and layer, the sections present and dropped, the sections present and
+          merged and the rounds, or a place; the table goes to the file after -o
   --help  print this
 
 A file is an object if its first byte is 7F hexadecimal, else a table; without
@@ -42,12 +55,14 @@ fn perform(rt: &HostRuntime, command: &str, words: Args) -> anyhow::Result<()> {
     match command {
         "check" => check::check(rt, read_options(words)?),
         "table" => table_of::table(rt, read_options(words)?),
+        "fold" => fold::fold(rt, read_wanted(rt.alloc(), words)?),
+        "run" => run::run(rt, read_options(words)?),
         "--help" | "-h" | "help" => help(rt),
         _ => bail!("no command is called {command}; yilmacrab --help lists them"),
     }
 }
 
-fn run(rt: &HostRuntime) -> anyhow::Result<()> {
+fn command(rt: &HostRuntime) -> anyhow::Result<()> {
     let mut words = env::args(rt)?;
     let _program = words.next();
     match words.next() {
@@ -57,7 +72,7 @@ fn run(rt: &HostRuntime) -> anyhow::Result<()> {
 }
 
 fn main(rt: HostRuntime) -> ExitCode {
-    match run(&rt) {
+    match command(&rt) {
         Ok(()) => ExitCode::SUCCESS,
         Err(error) => {
             let _ = eprintln!(rt; "yilmacrab: {error}");

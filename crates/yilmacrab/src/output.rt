@@ -1,21 +1,25 @@
-// Writing a section table to where it goes.
-use crate::graphs::{Description, describe};
+// What goes out: a section table to where it is wanted, and lines for people to where no table goes.
+use crate::graphs::describe;
 use crate::options::Options;
 use graph::SectionGraph;
-use std::fs;
 use std::io::Write;
+use std::{fmt, fs, io};
 use texts::table_text;
 
-fn send(rt: &HostRuntime, options: &Options, text: &[u8], said: Description) -> anyhow::Result<()> {
+// A line for people: on standard output where the table goes to a file, and else on standard error.
+pub fn say<D: fmt::Display + Drop>(rt: &HostRuntime, options: &Options, line: D) -> io::Result<()> {
+    if options.output.is_some() {
+        println!(rt; "{line}")
+    } else {
+        eprintln!(rt; "{line}")
+    }
+}
+
+// The text of a table, to the file that was named or to standard output.
+pub fn send(rt: &HostRuntime, options: &Options, text: &[u8]) -> anyhow::Result<()> {
     match &options.output {
-        Some(path) => {
-            fs::write(rt, path.as_str(), text)?;
-            println!(rt; "{said}")?;
-        }
-        None => {
-            rt.stdout().write_all(text)?;
-            eprintln!(rt; "{said}")?;
-        }
+        Some(path) => fs::write(rt, path.as_str(), text)?,
+        None => rt.stdout().write_all(text)?,
     }
     Ok(())
 }
@@ -27,5 +31,7 @@ pub fn write_out<G: SectionGraph>(
     options: &Options,
 ) -> anyhow::Result<()> {
     let said = describe(rt.alloc(), graph)?;
-    send(rt, options, table_text(rt.alloc(), graph)?.as_slice(), said)
+    send(rt, options, table_text(rt.alloc(), graph)?.as_slice())?;
+    say(rt, options, said)?;
+    Ok(())
 }

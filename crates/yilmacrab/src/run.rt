@@ -1,0 +1,62 @@
+// `run`: calls from standard input, a line each, on one pile over a file.
+use crate::graphs::{is_object, load};
+use crate::input::{read_object, read_table};
+use crate::lines::{Done, Found, Order, read_order};
+use crate::options::Options;
+use anyhow::{Context, ensure};
+use graph::SectionGraph;
+use pile::Pile;
+use std::fs;
+use std::io::Read;
+use texts::table_text;
+
+// Does what a line asks for, and prints what comes of it.
+fn perform<G: SectionGraph + Drop>(
+    rt: &HostRuntime,
+    pile: &mut Pile<G>,
+    wanted: Order,
+) -> anyhow::Result<()> {
+    match wanted {
+        Order::Call(call) => {
+            let answer = pile.apply(call);
+            println!(rt; "{}", Done { call, answer })?;
+        }
+        Order::Place(section) => {
+            let place = pile.place(section);
+            println!(rt; "{}", Found { section, place })?;
+        }
+    }
+    Ok(())
+}
+
+fn run_graph<G: SectionGraph + Drop>(
+    rt: &HostRuntime,
+    below: G,
+    calls: &str,
+    options: &Options,
+) -> anyhow::Result<()> {
+    let mut pile = Pile::new(below);
+    for (i, line) in calls.lines().enumerate() {
+        let wanted = read_order(line).context(format_args!("line {} is no call: {line}", i + 1))?;
+        perform(rt, &mut pile, wanted)?;
+    }
+    if let Some(path) = &options.output {
+        fs::write(rt, path.as_str(), table_text(rt.alloc(), &pile)?.as_slice())?;
+    }
+    Ok(())
+}
+
+pub fn run(rt: &HostRuntime, options: Options) -> anyhow::Result<()> {
+    ensure!(
+        options.file.is_some(),
+        "run needs a file, since the calls come on standard input"
+    );
+    let bytes = load(rt, &options.file)?;
+    let mut calls = String::new(rt.alloc());
+    rt.stdin().read_to_string(&mut calls)?;
+    if is_object(bytes.as_slice()) {
+        run_graph(rt, read_object(rt, bytes)?, calls.as_str(), &options)
+    } else {
+        run_graph(rt, read_table(rt, bytes)?, calls.as_str(), &options)
+    }
+}
