@@ -29,6 +29,10 @@ pub fn check(rt: &HostRuntime, options: Options) -> anyhow::Result<()> {
         options.output.is_none(),
         "check writes no file: -o is an option of table"
     );
+    ensure!(
+        options.map.is_none(),
+        "check writes no map: -m is an option of fold and run"
+    );
     let bytes = load(rt, &options.file)?;
     if is_object(bytes.as_slice()) {
         let object = read_object(rt, bytes)?;

@@ -3,7 +3,7 @@ use crate::graphs::{describe, is_object, load};
 use crate::input::{read_object, read_table};
 use crate::lines::Done;
 use crate::options::Wanted;
-use crate::output::{say, send};
+use crate::output::{say, send, write_map_out};
 use crate::refusal::or_row;
 use calls::{Answer, Call};
 use graph::SectionGraph;
@@ -53,7 +53,8 @@ fn fold_graph<G: SectionGraph + Drop>(
         &wanted.options,
         format_args!("table          {} bytes", table.len()),
     )?;
-    send(rt, &wanted.options, table.as_slice())
+    send(rt, &wanted.options, table.as_slice())?;
+    write_map_out(rt, &pile, &wanted.options)
 }
 
 pub fn fold(rt: &HostRuntime, wanted: Wanted) -> anyhow::Result<()> {

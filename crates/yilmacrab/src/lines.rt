@@ -112,3 +112,59 @@ impl fmt::Display for Found {
         }
     }
 }
+
+#[cfg(test)]
+mod tests {
+    use super::*;
+    use fault::{Kind, Layer};
+
+    #[test]
+    fn orders_are_read(rt: HostRuntime) {
+        assert!(rt;
+            matches!(
+                read_order("bind 5 3"),
+                Some(Order::Call(Call::Bind {
+                    name: 5,
+                    section: 3
+                }))
+            )
+        );
+        assert!(rt; matches!(read_order("sweep"), Some(Order::Call(Call::Sweep))));
+        assert!(rt; matches!(read_order("place 7"), Some(Order::Place(7))));
+        assert!(rt; read_order("bind 5").is_none());
+        assert!(rt; read_order("pin 65536").is_none());
+        assert!(rt; read_order("sweep 1").is_none());
+        assert!(rt; read_order("").is_none());
+    }
+
+    #[test]
+    fn answers_print(rt: HostRuntime) -> anyhow::Result<()> {
+        let full = Fault::new(Kind::Full, 0, Layer::Pile);
+        let refused = Done {
+            call: Call::Root { section: 4 },
+            answer: Answer::Refused(full),
+        };
+        assert_eq!(rt;
+            format!(in rt.alloc(); "{refused}")?.as_str(),
+            "root 4 refused 10 0 3"
+        );
+        let folded = Done {
+            call: Call::Fold,
+            answer: Answer::Merged {
+                present: 8,
+                merged: 2,
+                rounds: 1,
+            },
+        };
+        assert_eq!(rt; format!(in rt.alloc(); "{folded}")?.as_str(), "fold 8 2 1");
+        let found = Found {
+            section: 3,
+            place: Ok(Place::Swept),
+        };
+        assert_eq!(rt;
+            format!(in rt.alloc(); "{found}")?.as_str(),
+            "place 3 swept"
+        );
+        Ok(())
+    }
+}

@@ -22,28 +22,32 @@ use std::process::ExitCode;
 
 const HELP: &str = "usage: yilmacrab check [FILE]
        yilmacrab table [FILE] [-o TABLE]
-       yilmacrab fold [FILE] [--bind NAME=SECTION] [--pin SECTION]
-                 [--root SECTION] [-o TABLE]
-       yilmacrab run FILE [-o TABLE]
+       yilmacrab fold [FILE] [--bind NAME=SECTION].. [--pin SECTION]..
+                 [--root SECTION].. [-o TABLE] [-m MAP]
+       yilmacrab run FILE [-o TABLE] [-m MAP]
 
   check   read an ELF64 object or a section table and say what it holds; a table
           is written again and compared
   table   read an ELF64 object or a section table and write its section table
   fold    read a file, do the binds, pins and roots in the order given, sweep and
-          fold, and write the section table of what is left
+          fold, and write the section table of what is left; a call that is
+          refused ends it, with nothing written
   run     read a file, and from standard input calls, a line each: bind NAME
           SECTION, pin SECTION, root SECTION, sweep, fold, place SECTION; do them
           in order and print what each answers: ok, refused with number, place
           and layer, the sections present and dropped, the sections present and
-          merged and the rounds, or a place; the table goes to the file after -o
+          merged and the rounds, or a place; a line that is no call ends it, with
+          nothing written
   --help  print this
 
 A file is an object if its first byte is 7F hexadecimal, else a table; without
 FILE, standard input is read. A table goes to standard output, or to the file
 after -o; what is said of it then goes to standard output too, else to standard
-error. What is refused is told by an F row on standard output (the refusal's
-number, its place and its layer) and a sentence on standard error. The status is
-0, or 1 where something was refused or could not be done.";
+error. A fold map, which tells where each section went, goes to the file after
+-m. Of run, a table goes to the file after -o alone. What is refused is told by
+an F row on standard output (the refusal's number, its place and its layer) and
+a sentence on standard error. The status is 0, or 1 where something was refused
+or could not be done.";
 
 fn help(rt: &HostRuntime) -> anyhow::Result<()> {
     println!(rt; "{HELP}")?;
@@ -120,6 +124,7 @@ mod tests {
         let options = Options {
             file: None,
             output: Some(String::from_str(rt.alloc(), "out.table")?),
+            map: None,
         };
         assert_eq!(rt;
             said(&rt, check::check(&rt, options))?.as_str(),

@@ -11,16 +11,28 @@ pub struct Options {
     pub file: Option<String>,
     // the file that the table is written to; without one, standard output
     pub output: Option<String>,
+    // the file that the fold map is written to, if it is wanted
+    pub map: Option<String>,
 }
 
 impl Options {
-    // Takes a word that is not -o: the file that is read.
+    // Takes a word that is none of an option: the file that is read.
     pub fn take(&mut self, word: String) -> anyhow::Result<()> {
         if word.as_str().starts_with('-') {
             bail!("no option is called {word}; yilmacrab --help lists them");
         }
         ensure!(self.file.is_none(), "only one file can be read");
         self.file = Some(word);
+        Ok(())
+    }
+
+    // Takes a word, and where it is an option the word after it.
+    fn read(&mut self, word: String, words: &mut Args) -> anyhow::Result<()> {
+        match word.as_str() {
+            "-o" => self.output = Some(value(words, "-o")?),
+            "-m" => self.map = Some(value(words, "-m")?),
+            _ => self.take(word)?,
+        }
         Ok(())
     }
 }
@@ -39,11 +51,7 @@ pub fn read_options(mut words: Args) -> anyhow::Result<Options> {
         let Some(word) = words.next() else {
             return Ok(options);
         };
-        if word.as_str() == "-o" {
-            options.output = Some(words.next().context("a file name has to follow -o")?);
-        } else {
-            options.take(word)?;
-        }
+        options.read(word, &mut words)?;
     }
     bail!("too many words")
 }
@@ -56,7 +64,25 @@ pub struct Wanted {
     pub calls: Vec<Call>,
 }
 
-// At most 4,096 words, as above.
+impl Wanted {
+    // Takes a word, and where it is an option the word after it.
+    fn read(&mut self, word: String, words: &mut Args) -> anyhow::Result<()> {
+        let call = match word.as_str() {
+            "--bind" => bind(value(words, "--bind")?.as_str())?,
+            "--pin" => Call::Pin {
+                section: number(value(words, "--pin")?.as_str())?,
+            },
+            "--root" => Call::Root {
+                section: number(value(words, "--root")?.as_str())?,
+            },
+            _ => return self.options.read(word, words),
+        };
+        self.calls.push(call)?;
+        Ok(())
+    }
+}
+
+// At most 4,096 words with their values, as above.
 pub fn read_wanted(heap: Global, mut words: Args) -> anyhow::Result<Wanted> {
     let mut wanted = Wanted {
         options: Options::default(),
@@ -66,19 +92,7 @@ pub fn read_wanted(heap: Global, mut words: Args) -> anyhow::Result<Wanted> {
         let Some(word) = words.next() else {
             return Ok(wanted);
         };
-        match word.as_str() {
-            "-o" => wanted.options.output = Some(value(&mut words, "-o")?),
-            "--bind" => wanted
-                .calls
-                .push(bind(value(&mut words, "--bind")?.as_str())?)?,
-            "--pin" => wanted.calls.push(Call::Pin {
-                section: number(value(&mut words, "--pin")?.as_str())?,
-            })?,
-            "--root" => wanted.calls.push(Call::Root {
-                section: number(value(&mut words, "--root")?.as_str())?,
-            })?,
-            _ => wanted.options.take(word)?,
-        }
+        wanted.read(word, &mut words)?;
     }
     bail!("too many words")
 }

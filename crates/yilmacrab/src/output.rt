@@ -1,7 +1,10 @@
 // What goes out: a section table to where it is wanted, and lines for people to where no table goes.
 use crate::graphs::describe;
 use crate::options::Options;
+use crate::refusal::or_row;
+use foldmap::{map_length, write_map};
 use graph::SectionGraph;
+use pile::Pile;
 use std::io::Write;
 use std::{fmt, fs, io};
 use texts::table_text;
@@ -20,6 +23,20 @@ pub fn send(rt: &HostRuntime, options: &Options, text: &[u8]) -> anyhow::Result<
     match &options.output {
         Some(path) => fs::write(rt, path.as_str(), text)?,
         None => rt.stdout().write_all(text)?,
+    }
+    Ok(())
+}
+
+// The fold map of a pile, to the file that was named, if one was.
+pub fn write_map_out<G: SectionGraph>(
+    rt: &HostRuntime,
+    pile: &Pile<G>,
+    options: &Options,
+) -> anyhow::Result<()> {
+    if let Some(path) = &options.map {
+        let mut text = vec![in rt.alloc(); 0u8; map_length(pile)]?;
+        or_row(rt, write_map(pile, text.as_mut_slice()))?;
+        fs::write(rt, path.as_str(), text.as_slice())?;
     }
     Ok(())
 }

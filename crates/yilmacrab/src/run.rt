@@ -3,6 +3,7 @@ use crate::graphs::{is_object, load};
 use crate::input::{read_object, read_table};
 use crate::lines::{Done, Found, Order, read_order};
 use crate::options::Options;
+use crate::output::write_map_out;
 use anyhow::{Context, ensure};
 use graph::SectionGraph;
 use pile::Pile;
@@ -43,7 +44,7 @@ fn run_graph<G: SectionGraph + Drop>(
     if let Some(path) = &options.output {
         fs::write(rt, path.as_str(), table_text(rt.alloc(), &pile)?.as_slice())?;
     }
-    Ok(())
+    write_map_out(rt, &pile, options)
 }
 
 pub fn run(rt: &HostRuntime, options: Options) -> anyhow::Result<()> {
