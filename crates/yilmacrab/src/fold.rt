@@ -1,7 +1,7 @@
 // `fold`: some calls on a pile over a file, then a sweep and a fold, and the table of what is left.
+use crate::call_lines::Done;
 use crate::graphs::{describe, is_object, load};
 use crate::input::{read_object, read_table};
-use crate::lines::Done;
 use crate::options::Wanted;
 use crate::output::{say, send, write_map_out};
 use crate::refusal::or_row;

@@ -2,11 +2,11 @@
 
 #![tactic(auto)]
 
+mod call_lines;
 mod check;
 mod fold;
 mod graphs;
 mod input;
-mod lines;
 mod options;
 mod output;
 mod refusal;

@@ -1,5 +1,5 @@
 // The words after a command.
-use crate::lines::{bind, number};
+use crate::call_lines::{bind, number};
 use anyhow::{Context, bail, ensure};
 use calls::Call;
 use std::alloc::Global;

@@ -1,7 +1,7 @@
 // `run`: calls from standard input, a line each, on one pile over a file.
+use crate::call_lines::{Done, Found, Order, read_order};
 use crate::graphs::{is_object, load};
 use crate::input::{read_object, read_table};
-use crate::lines::{Done, Found, Order, read_order};
 use crate::options::Options;
 use crate::output::write_map_out;
 use anyhow::{Context, ensure};
