@@ -31,7 +31,9 @@ pub fn byte_at(text: &[u8], at: usize) -> u8
     text.get(at).copied().unwrap_or(0)
 }
 
-// The number in the columns from `at` on.
+// The number in the columns from `at` on. It and the two after it are inlined: in a program with several readers columns are read a
+// tenth more slowly without the hint.
+#[inline(always)]
 pub fn column_at<const WIDTH: usize>(text: &[u8], at: usize) -> Result<i64, Cause>
     ensures { result ≡ column_at WIDTH text.now at }
 {
@@ -41,6 +43,7 @@ pub fn column_at<const WIDTH: usize>(text: &[u8], at: usize) -> Result<i64, Caus
 }
 
 // A natural number of 32 bits, not above the limit.
+#[inline(always)]
 #[tactic(auto, unfolding(crate::specs::Parts::natural_at))]
 pub fn word_at<const WIDTH: usize>(text: &[u8], at: usize, limit: u32) -> Result<u32, Cause>
     ensures value { result ≡ natural_at WIDTH text.now at limit }
@@ -54,6 +57,7 @@ pub fn word_at<const WIDTH: usize>(text: &[u8], at: usize, limit: u32) -> Result
 
 // A natural number of 16 bits, not above the limit. One generic function for both widths would need a trait with a law,
 // and an impl of it for each, which is longer than this.
+#[inline(always)]
 pub fn short_at<const WIDTH: usize>(text: &[u8], at: usize, limit: u16) -> Result<u16, Cause>
     ensures { result ≡ natural_at WIDTH text.now at limit }
 {

@@ -71,7 +71,8 @@ impl<'a> SectionRows<'a> {
     }
 
     // The number in the columns from a place on. Apart from the `column_at` of `row_part`, which tells a cause: here none is told, and
-    // what is cut short is read as it is, since the text was accepted.
+    // what is cut short is read as it is, since the text was accepted. It and the two after the next are inlined, as in `row_part`.
+    #[inline(always)]
     fn column(&self, at: usize, width: usize) -> Option<i64>
         requires { width ≤ 18 }
         ensures { result ≡ read_column (take width (drop at self.now.text.now)) }
@@ -88,6 +89,7 @@ impl<'a> SectionRows<'a> {
     }
 
     // The byte in the four columns from a place on.
+    #[inline(always)]
     fn byte_at(&self, at: usize) -> Option<u8>
         ensures { result ≡ byte_told (read_column (take 4 (drop at self.now.text.now))) }
     {
@@ -95,6 +97,7 @@ impl<'a> SectionRows<'a> {
     }
 
     // Byte `i` of the section.
+    #[inline(always)]
     pub fn byte(&self, i: u16) -> Option<u8>
         ensures { result ≡ byte_in self.now.text.now i }
     {
