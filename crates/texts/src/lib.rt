@@ -41,3 +41,18 @@ fn row_length(fault: &Fault) -> usize
 {
     write_fault(fault, &mut []).unwrap_or_else(|small| small.place as usize)
 }
+
+#[cfg(test)]
+mod tests {
+    use super::fault_text;
+    use fault::{Fault, Kind, Layer};
+    use std::alloc::AllocError;
+
+    #[test]
+    fn a_refusal_has_its_row(rt: HostRuntime) -> Result<(), AllocError> {
+        let full = Fault::new(Kind::Full, 0, Layer::Pile);
+        let row = fault_text(rt.alloc(), &full)?;
+        assert!(rt; row.as_slice() == b"F          10           0           3\n".as_slice());
+        Ok(())
+    }
+}
