@@ -32,7 +32,7 @@ pub fn byte_at(text: &[u8], at: usize) -> u8
 }
 
 // The number in the columns from `at` on. It and the two after it are inlined: in a program with several readers columns are read a
-// tenth more slowly without the hint.
+// sixth more slowly without the hint.
 #[inline(always)]
 pub fn column_at<const WIDTH: usize>(text: &[u8], at: usize) -> Result<i64, Cause>
     ensures { result ≡ column_at WIDTH text.now at }
