@@ -99,6 +99,20 @@ def read(b):
         fold=s['t']==1 and not root and not s['f']&(1|0x10|0x80|0x400) and sig is not None and i not in listed
         B[i]=(s['f']&~0x200,s['a'] or 1,bytes(s['z']) if s['t']==8 else b[s['o']:s['o']+s['z']],0 if fold else 1,parts.get(i,[]))
     return n,B,R
+# the name of a section, or None; of any bytes
+def section_name(b,i):
+    L=len(b)
+    if L<64: return None
+    n,names=struct.unpack_from('<HH',b,60)
+    off=struct.unpack_from('<Q',b,40)[0]
+    def header(k): return off+64*k if k<n and off+64*k+64<=L else None
+    p=header(i); t=header(names) if names else None
+    if p is None or t is None: return None
+    o,z=struct.unpack_from('<QQ',b,t+24)
+    if o+z>L: return None
+    table=b[o:o+z]; at=struct.unpack_from('<I',b,p)[0]
+    end=table.find(b'\0',at) if at<=len(table) else -1
+    return None if end<0 else table[at:end]
 def text(g):
     n,B,R=g
     w=lambda c,*a: c+''.join('%12d'%x for x in a)+'\n'
