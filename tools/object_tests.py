@@ -4,7 +4,7 @@
 import os, re, struct, subprocess, sys
 here = os.path.dirname(os.path.abspath(__file__))
 sys.path.insert(0, here)
-from object_reference import read, section_name, text, Bad
+from object_reference import faults, read, section_name, text, Bad
 crate = os.path.join(here, '..', 'crates', 'object_tests')
 data = os.path.join(crate, 'data')
 
@@ -67,7 +67,7 @@ listing = lambda *x: [place(5, end), size(5, len(x)), bits(end, bytes(x))]
 no_table = [kind(3, 3), kind(4, 3), kind(8, 3)]
 big = 2**64
 
-# each line: what it breaks, the patches (place, width, value), the refusal, and the length, where it is not that of the
+# each line: what it breaks, and nothing else, the patches (place, width, value), the refusal, and the length, where it is not that of the
 # small object: a longer one goes on with zeros, of which the symbols, entries and headers that are put there are made
 cases = [
     # the header of the object
@@ -99,7 +99,7 @@ cases = [
     # extents
     ('extent', [place(1, end - 7)], (1, at(1, 24), 1)),
     ('extent to the end', [place(1, end - 8)], None),
-    ('extent by its size', [kind(1, 3), size(1, end)], (1, at(1, 24), 1)),
+    ('extent by its size', [size(9, end)], (1, at(9, 24), 1)),
     ('extent that ends at 2^64', [place(1, big - 8)], (1, at(1, 24), 1)),
     ('extent past 2^64', [place(9, big - 1)], (1, at(9, 24), 1)),
     ('extent of 2^64 - 1 bytes', [size(9, big - 1)], (1, at(9, 24), 1)),
@@ -128,7 +128,7 @@ cases = [
     ('second symbol table', [kind(9, 2)], (5, at(9, 4), 2)),
     ('size of a symbol', [stride(3, 16)], (5, at(3, 56), 2)),
     ('size of a symbol, its high half', [stride(3, 2**32 + 24)], (5, at(3, 56), 2)),
-    ('size of the symbol table', [size(3, 25)], (5, at(3, 32), 2)),
+    ('size of the symbol table', [size(3, 9 * 24 + 1)], (5, at(3, 32), 2)),
     ('65,536 symbols', [place(3, end), size(3, 24 * 65536)], None, end + 24 * 65536),
     ('65,537 symbols', [place(3, end), size(3, 24 * 65537)], (3, at(3, 32), 2), end + 24 * 65537),
     ('reserved index', [(q(1) + 6, 2, 0xff00)], (5, q(1) + 6, 2)),
@@ -151,7 +151,7 @@ cases = [
     ('second relocations of a section', [info(8, 1)], (5, at(8, 44), 2)),
     ('link of relocations', [link(4, 9)], (4, at(4, 40), 2)),
     ('link of 65,539', [link(4, 65539)], (4, at(4, 40), 2)),
-    ('link with no symbol table', [kind(3, 3)], (4, at(4, 40), 2)),
+    ('link with no symbol table', [kind(3, 3), kind(8, 3), size(4, 0), size(5, 0)], (4, at(4, 40), 2)),
     ('size of an entry', [stride(4, 25)], (5, at(4, 56), 2)),
     ('size of relocations', [size(4, 71)], (5, at(4, 32), 2)),
     ('65,535 entries', [place(4, end), size(4, 24 * 65535)], None, end + 24 * 65535),
@@ -174,10 +174,11 @@ cases = [
     ('number of 2^32 - 1', listing(0xff, 0xff, 0xff, 0xff, 0x0f), (4, end, 2), end + 5),
     ('number longer than it needs', listing(0x88, 0x80, 0x80, 0x80, 0), None, end + 5),
     ('number of no symbol', [(sig + 3, 1, 9)], (4, sig + 3, 2)),
-    ('number with no symbol table', no_table, (4, sig, 2)),
+    ('number with no symbol table', no_table + [size(5, 1)], (4, sig, 2)),
     ('no numbers with no symbol table', no_table + [size(5, 0)], None),
-
-    # which of two comes first: each check and the next one
+]
+# which of two comes first: each check and the next one
+orders = [
     ('length before identification', [(0, 1, 0)], (1, 63, 1), 63),
     ('identification before type', [(6, 1, 0), (16, 2, 2)], (2, 0, 2)),
     ('type before entry size', [(16, 2, 2), (58, 2, 63)], (2, 16, 2)),
@@ -224,13 +225,19 @@ def patched(ps, length):
 def verdict(b):
     try: read(b); return None
     except Bad as x: return x.args[0]
+# pairs whose second check cannot be looked at where the first does not hold
+apart = {'length before identification', 'headers before extents', 'target before type', 'form before symbol count'}
 blob = b''
-for name, ps, want, *length in cases:
+singles = {case[0] for case in cases}
+for name, ps, want, *length in cases + orders:
     length = length[0] if length else end
     b = patched(ps, length)
     assert len(b) == length, name
     got = verdict(b)
     assert got == want, (name, got, want)
+    found = faults(b)
+    if name in singles: assert found == ([want] if want else []), (name, found)
+    else: assert found[0] == want and (len(found) > 1 or name in apart), (name, found)
     zeros = base[:length].ljust(length, b'\0')
     flat = [(p + k, v >> 8 * k & 255) for p, w, v in ps for k in range(w)]
     flat = [(p, x) for p, x in flat if zeros[p] != x]
@@ -302,7 +309,7 @@ for name in ('gcc.o', 'clang_addrsig.o', 'clang_plain.o', 'small.o'):
     g = read(b)
     out += name + '\n' + text(g)
     for i in range(g[0]): out += 'N%12d %s\n' % (i, section_name(b, i).decode())
-for name, ps, want, *length in cases: out += row(want)
+for name, ps, want, *length in cases + orders: out += row(want)
 other = open(os.path.join(data, 'clang_addrsig.o'), 'rb').read()
 for b in (base, other): out += sweep(b) + names_swept(b)
 open(os.path.join(crate, 'stdout'), 'w').write(out)

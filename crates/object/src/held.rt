@@ -28,7 +28,6 @@ use std::alloc::Global;
 static ZEROS: [u8; 65535] = [0; 65535];
 
 // The bytes of a section that has room in memory and nothing in the file.
-#[tactic(auto, using(crate::proofs::Showing::zeros_taken))]
 fn zeros(size: usize) -> &'static [u8]
     requires { size ≤ 65535 }
     ensures { result.now ≡ replicate size 0 }
@@ -44,7 +43,7 @@ fn slice_of(file: &[u8], from: usize, size: usize) -> &[u8]
     &file[from..from + size]
 }
 
-// A digest of some bytes.
+// A digest of some bytes. By a loop, as that of `graph` is.
 #[tactic(auto, using(std::proofs::lemmas::List::drop_more, std::proofs::lemmas::List::drop_all))]
 fn digest_of(bytes: &[u8]) -> u64
     ensures { result ≡ digest bytes.now }

@@ -195,12 +195,12 @@ impl Tally {
 
 // Verdicts and names of objects that are damaged.
 #[derive(Clone, Copy, Default)]
-struct Sweep {
+struct Damage {
     verdicts: Tally,
     names: Tally,
 }
 
-impl Sweep {
+impl Damage {
     fn add(&mut self, b: &[u8]) {
         self.verdicts.add_verdict(b);
         self.names.add_names(b);
@@ -209,15 +209,15 @@ impl Sweep {
 
 // Each byte set to 0, to 255 and flipped, and the object cut before it.
 fn sweep(rt: &HostRuntime, b: &[u8]) -> anyhow::Result<()> {
-    let mut sweep = Sweep::default();
+    let mut damage = Damage::default();
     for (place, x) in b.iter().enumerate() {
         for byte in [0, 255, *x ^ 255] {
             let changed = patched(rt.alloc(), b, b.len(), &[Change { place, byte }])?;
-            sweep.add(changed.as_slice());
+            damage.add(changed.as_slice());
         }
-        sweep.add(&b[..place]);
+        damage.add(&b[..place]);
     }
-    let Sweep { verdicts, names } = sweep;
+    let Damage { verdicts, names } = damage;
     println!(rt; "swept{:>12}{:>12}", verdicts.good, verdicts.digest)?;
     println!(rt; "named{:>12}{:>12}", names.good, names.digest)?;
     Ok(())

@@ -2,7 +2,7 @@
 use Rattle.std.proofs.Common.{◌≡◌, ℕ, Bool, true, false, cond, List, [], ◌∷◌, length, Some, None, Option, sym, refl, ap, ◌∙◌, arith}
 use Rattle.std.specs.Option.{option_map}
 use Rattle.model.specs.declared.Target.{Target}
-use Rattle.model.specs.Graph.{Body, Graph, section_of, record_of, told_record}
+use Rattle.model.specs.Graph.{Body, Graph, section_of, record_of}
 use Rattle.graph.specs.Bytes.{bytes_in, bytes_of, digest, told_size}
 use Rattle.graph.proofs.Told.{size_length}
 use Rattle.unfolding.specs.Groups.{aimed, moved}
