@@ -22,7 +22,7 @@ ghost use Rattle.pile.specs.Piling.{pile_valid};
 
 use calls::{Answer, Call, Place};
 use fault::Fault;
-use graph::SectionGraph;
+use graph::{SectionGraph, size_told};
 use ledger::Ledger;
 use model::{Record, Relocation};
 use partition::partition;
@@ -38,6 +38,9 @@ pub struct Pile<G: SectionGraph> {
     table: Ledger,
     ghost sound: { Sound (G.SectionGraph.graph below) table },
 }
+
+// The digest of no bytes.
+const NO_BYTES: u64 = 14695981039346656037;
 
 // Whether section `s` of a graph is present.
 fn is_present<G: SectionGraph>(graph: &G, s: u16) -> bool
@@ -81,6 +84,25 @@ impl<G: SectionGraph> SectionGraph for Pile<G> {
     #[tactic(auto, using(ledger::proofs::Asking::tells_byte))]
     fn byte(&self, s: u16, i: u16) -> Option<u8> {
         self.table.byte(s, self.below.byte(s, i))
+    }
+
+    #[tactic(auto, using(crate::proofs::Bytes::digest_stands, crate::proofs::Bytes::digest_gone))]
+    fn byte_digest(&self, s: u16) -> u64 {
+        if self.table.slots.is_untouched(s) {
+            self.below.byte_digest(s)
+        } else {
+            NO_BYTES
+        }
+    }
+
+    // A section that was swept or folded into another has no bytes, and then sizes decide.
+    #[tactic(auto, using(crate::proofs::Bytes::bytes_stand, crate::proofs::Bytes::same_sizes))]
+    fn same_bytes(&self, s: u16, t: u16) -> bool {
+        if self.table.slots.is_untouched(s) && self.table.slots.is_untouched(t) {
+            self.below.same_bytes(s, t)
+        } else {
+            size_told(self.record_of(s)) == size_told(self.record_of(t))
+        }
     }
 
     #[tactic(auto, using(ledger::proofs::Asking::tells_relocation))]
