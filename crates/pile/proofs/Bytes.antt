@@ -1,9 +1,6 @@
--- The bytes of a section of the pile: those below where its slot is untouched, and else none.
-use Rattle.std.proofs.Common.{◌≡◌, ℕ, Bool, true, false, cond, ◌&&◌, ◌⊎◌, inl, inr, List, [], length, Some, None, Option, sym, refl, ap, ◌∙◌, subst, ⊎_elim, arith}
-use Rattle.std.specs.Prelude.{Decides, ◌==◌}
+-- The bytes of a section of the pile: those below, or, where it is gone, none.
+use Rattle.std.proofs.Common.{◌≡◌, ℕ, Bool, true, false, cond, List, [], ◌∷◌, length, Some, None, Option, sym, refl, ap, ◌∙◌, arith}
 use Rattle.std.specs.Option.{option_map}
-use Rattle.std.proofs.lemmas.Bool.Decides.{Decides-eqb}
-use Rattle.std.proofs.lemmas.List.{nil_from_length}
 use Rattle.model.specs.declared.Target.{Target}
 use Rattle.model.specs.Graph.{Body, Graph, section_of, record_of}
 use Rattle.graph.specs.Bytes.{bytes_in, bytes_of, digest, told_size}
@@ -16,11 +13,10 @@ use Rattle.runs.specs.State.{slot_of, untouched}
 use Rattle.runs.specs.Seen.{found_number, left_of}
 use Rattle.ledger.specs.declared.Ledger.{Ledger}
 use Rattle.ledger.specs.Told.{bound_by, pinned, told}
-use Rattle.ledger.specs.Answers.{stands}
 use Rattle.ledger.proofs.Asking.{told_at}
 
-tells_bytes : (g : Graph) (t : Ledger) (s : ℕ) → bytes_of (told g t).graph s ≡ cond (stands t s) (bytes_of g s) []
-tells_bytes g t s =
+bytes_told : (g : Graph) (t : Ledger) (s : ℕ) → bytes_of (told g t).graph s ≡ cond (untouched (slot_of t.slots.list s)) (bytes_of g s) []
+bytes_told g t s =
     ap bytes_in (told_at g t s) ∙
     go (moved (found_number t.slots.list)) (bound_by t) (slot_of t.slots.list s) (pinned t s) (section_of g s)
   where
@@ -35,49 +31,44 @@ tells_bytes g t s =
     go f h (Folded u) c o = refl
     go f h Swept c o = refl
 
-pub bytes_stand : (g : Graph) (t : Ledger) (s : ℕ) → stands t s ≡ true → bytes_of (told g t).graph s ≡ bytes_of g s
-bytes_stand g t s e = tells_bytes g t s ∙ ap (λ (b : Bool). cond b (bytes_of g s) []) e
+sized : (g : Graph) (s : ℕ) → told_size (record_of g s) ≡ length (bytes_of g s)
+sized g s = size_length (section_of g s)
 
-bytes_gone : (g : Graph) (t : Ledger) (s : ℕ) → stands t s ≡ false → bytes_of (told g t).graph s ≡ []
-bytes_gone g t s e = tells_bytes g t s ∙ ap (λ (b : Bool). cond b (bytes_of g s) []) e
+nothing : (xs : List ℕ) → length xs ≡ 0 → xs ≡ []
+nothing [] e = refl
+nothing (x ∷ xs) e = absurd (omega arith)
 
-pub digest_stands :
-    (g : Graph) (t : Ledger) (s : ℕ) → stands t s ≡ true → digest (bytes_of g s) ≡ digest (bytes_of (told g t).graph s)
-digest_stands g t s e = ap digest (sym (bytes_stand g t s e))
+-- no bytes are left
+gone : (g : Graph) (t : Ledger) (s : ℕ) → told_size (record_of (told g t).graph s) ≡ 0 → bytes_of (told g t).graph s ≡ []
+gone g t s e = nothing (bytes_of (told g t).graph s) (sym (sized (told g t).graph s) ∙ e)
 
-pub digest_gone : (g : Graph) (t : Ledger) (s : ℕ) → stands t s ≡ false → digest [] ≡ digest (bytes_of (told g t).graph s)
-digest_gone g t s e = ap digest (sym (bytes_gone g t s e))
-
--- where one of both has none, sizes decide
-sizes_decide : (xs ys : List ℕ) → (xs ≡ []) ⊎ (ys ≡ []) → Decides (length xs == length ys) (xs ≡ ys)
-sizes_decide xs ys none =
-    let d = Decides-eqb (length xs) (length ys) in
-    (λ h. go none (d.0 h), λ h. d.1 (ap length h))
+-- some are left, so all are
+left : (g : Graph) (t : Ledger) (s : ℕ) → (told_size (record_of (told g t).graph s) ≡ 0 → ⊥) → bytes_of (told g t).graph s ≡ bytes_of g s
+left g t s some = go (untouched (slot_of t.slots.list s)) (bytes_told g t s)
   where
-    go : (xs ≡ []) ⊎ (ys ≡ []) → length xs ≡ length ys → xs ≡ ys
-    go (inl e) l =
-        let few : length ys ≡ 0 = sym l ∙ ap length e in
-        e ∙ sym (nil_from_length ys few)
-    go (inr e) l =
-        let few : length xs ≡ 0 = l ∙ ap length e in
-        nil_from_length xs few ∙ sym e
+    go : (x : Bool) → bytes_of (told g t).graph s ≡ cond x (bytes_of g s) [] → bytes_of (told g t).graph s ≡ bytes_of g s
+    go true e = e
+    go false e = absurd (some (sized (told g t).graph s ∙ ap (λ (xs : List ℕ). length xs) e))
 
-either : (x y : Bool) → (x && y) ≡ false → (x ≡ false) ⊎ (y ≡ false)
-either false y e = inl refl
-either true y e = inr e
+pub digest_gone : (g : Graph) (t : Ledger) (s : ℕ) → told_size (record_of (told g t).graph s) ≡ 0 → digest (bytes_of (told g t).graph s) ≡ digest []
+digest_gone g t s e = ap digest (gone g t s e)
 
-pub same_sizes :
-    (g : Graph) (t : Ledger) (s u a b : ℕ) →
-    (stands t s && stands t u) ≡ false →
-    a ≡ told_size (record_of (told g t).graph s) →
-    b ≡ told_size (record_of (told g t).graph u) →
-    Decides (a == b) (bytes_of (told g t).graph s ≡ bytes_of (told g t).graph u)
-same_sizes g t s u a b e m n =
-    let x = (told g t).graph in
-    let none : (bytes_of x s ≡ []) ⊎ (bytes_of x u ≡ []) =
-    ⊎_elim (λ h. inl (bytes_gone g t s h)) (λ h. inr (bytes_gone g t u h)) (either (stands t s) (stands t u) e) in
-    let long : a ≡ length (bytes_of x s) = m ∙ size_length (section_of x s) in
-    let wide : b ≡ length (bytes_of x u) = n ∙ size_length (section_of x u) in
-    subst (λ (k : ℕ). Decides (k == b) (bytes_of x s ≡ bytes_of x u)) (sym long)
-    (subst (λ (k : ℕ). Decides (length (bytes_of x s) == k) (bytes_of x s ≡ bytes_of x u)) (sym wide)
-    (sizes_decide (bytes_of x s) (bytes_of x u) none))
+pub digest_left : (g : Graph) (t : Ledger) (s : ℕ) → (told_size (record_of (told g t).graph s) ≡ 0 → ⊥) → digest (bytes_of (told g t).graph s) ≡ digest (bytes_of g s)
+digest_left g t s some = ap digest (left g t s some)
+
+pub differ_in_size : (g : Graph) (a b : ℕ) → (told_size (record_of g a) ≡ told_size (record_of g b) → ⊥) → bytes_of g a ≡ bytes_of g b → ⊥
+differ_in_size g a b d e = d (sized g a ∙ (ap (λ (xs : List ℕ). length xs) e ∙ sym (sized g b)))
+
+pub both_gone : (g : Graph) (t : Ledger) (a b : ℕ) → told_size (record_of (told g t).graph a) ≡ 0 → told_size (record_of (told g t).graph b) ≡ 0
+    → bytes_of (told g t).graph a ≡ bytes_of (told g t).graph b
+both_gone g t a b e f = gone g t a e ∙ sym (gone g t b f)
+
+pub both_left : (g : Graph) (t : Ledger) (a b : ℕ)
+    → (told_size (record_of (told g t).graph a) ≡ 0 → ⊥) → (told_size (record_of (told g t).graph b) ≡ 0 → ⊥)
+    → bytes_of g a ≡ bytes_of g b → bytes_of (told g t).graph a ≡ bytes_of (told g t).graph b
+both_left g t a b d e w = left g t a d ∙ (w ∙ sym (left g t b e))
+
+pub both_below : (g : Graph) (t : Ledger) (a b : ℕ)
+    → (told_size (record_of (told g t).graph a) ≡ 0 → ⊥) → (told_size (record_of (told g t).graph b) ≡ 0 → ⊥)
+    → bytes_of (told g t).graph a ≡ bytes_of (told g t).graph b → bytes_of g a ≡ bytes_of g b
+both_below g t a b d e w = sym (left g t a d) ∙ (w ∙ left g t b e)

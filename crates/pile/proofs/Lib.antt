@@ -1,2 +1,2 @@
 mod Made
-pub mod Bytes
+mod Bytes

@@ -6,8 +6,9 @@
 
 #![tactic(auto)]
 
-ghost use Rattle.std.specs.Prelude.{◌≡◌, None};
+ghost use Rattle.std.specs.Prelude.{◌≡◌, [], None};
 ghost use Rattle.model.specs.Graph.{count_of, record_of, byte_of, relocation_of, root_count_of, root_of};
+ghost use Rattle.graph.specs.Bytes.{digest};
 ghost use Rattle.steps.specs.Below.{table as listed};
 ghost use Rattle.unfolding.specs.Groups.{present};
 ghost use Rattle.unfolding.specs.Reach.{reached};
@@ -39,9 +40,6 @@ pub struct Pile<G: SectionGraph> {
     ghost sound: { Sound (G.SectionGraph.graph below) table },
 }
 
-// The digest of no bytes.
-const NO_BYTES: u64 = 14695981039346656037;
-
 // Whether section `s` of a graph is present.
 fn is_present<G: SectionGraph>(graph: &G, s: u16) -> bool
     ensures { result ≡ present (G.SectionGraph.graph graph.now) s }
@@ -58,6 +56,13 @@ fn presence<G: SectionGraph>(graph: &G) -> Present
         there: array::from_fn(|s| is_present(graph, s as u16)),
         count: graph.count(),
     }
+}
+
+// The digest of no bytes.
+fn digest_of_none() -> u64
+    ensures { result ≡ digest [] }
+{
+    14695981039346656037
 }
 
 // A pile is a section graph again.
@@ -86,25 +91,6 @@ impl<G: SectionGraph> SectionGraph for Pile<G> {
         self.table.byte(s, self.below.byte(s, i))
     }
 
-    #[tactic(auto, using(crate::proofs::Bytes::digest_stands, crate::proofs::Bytes::digest_gone))]
-    fn byte_digest(&self, s: u16) -> u64 {
-        if self.table.slots.is_untouched(s) {
-            self.below.byte_digest(s)
-        } else {
-            NO_BYTES
-        }
-    }
-
-    // A section that was swept or folded into another has no bytes, and then sizes decide.
-    #[tactic(auto, using(crate::proofs::Bytes::bytes_stand, crate::proofs::Bytes::same_sizes))]
-    fn same_bytes(&self, s: u16, t: u16) -> bool {
-        if self.table.slots.is_untouched(s) && self.table.slots.is_untouched(t) {
-            self.below.same_bytes(s, t)
-        } else {
-            size_told(self.record_of(s)) == size_told(self.record_of(t))
-        }
-    }
-
     #[tactic(auto, using(ledger::proofs::Asking::tells_relocation))]
     fn relocation(&self, s: u16, j: u16) -> Option<Relocation> {
         self.table.relocation(s, self.below.relocation(s, j))
@@ -119,6 +105,24 @@ impl<G: SectionGraph> SectionGraph for Pile<G> {
     fn root(&self, j: u16) -> Option<u16> {
         self.table
             .root(self.below.root_count(), j, self.below.root(j))
+    }
+
+    // The bytes of a section that is left are those below, which the graph below may go over faster.
+    #[tactic(auto, using(crate::proofs::Bytes::digest_gone, crate::proofs::Bytes::digest_left))]
+    fn byte_digest(&self, s: u16) -> u64 {
+        if size_told(self.record_of(s)) == 0 {
+            return digest_of_none();
+        }
+        self.below.byte_digest(s)
+    }
+
+    #[tactic(auto, using(crate::proofs::Bytes::differ_in_size, crate::proofs::Bytes::both_gone, crate::proofs::Bytes::both_left, crate::proofs::Bytes::both_below))]
+    fn same_bytes(&self, s: u16, t: u16) -> bool {
+        let size = size_told(self.record_of(s));
+        if size != size_told(self.record_of(t)) {
+            return false;
+        }
+        size == 0 || self.below.same_bytes(s, t)
     }
 }
 
