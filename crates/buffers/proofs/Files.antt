@@ -1,5 +1,5 @@
 -- What is read of a file that is an object, and of one that is a table.
-use Rattle.std.proofs.Common.{◌≡◌, List, ℕ, true, false, cond, Some, None, Ok, Err, Option, Result, sym, refl, ap, ◌∙◌}
+use Rattle.std.proofs.Common.{◌≡◌, List, ℕ, true, false, cond, Some, None, Ok, Option, Result, sym, refl, ap, ◌∙◌}
 use Rattle.fault.specs.declared.Fault.{Fault}
 use Rattle.fault.specs.Refusal.{ok_unless}
 use Rattle.layout.specs.Reading.{fault_of, graph_of}

@@ -18,7 +18,7 @@ use inputs::{Input, input_by_chance};
 use std::alloc::{AllocError, Global};
 use std::collections::BTreeMap;
 
-const TRIALS: u32 = 100;
+const TRIALS: u32 = 4000;
 
 // What the library makes of an input, in buffers of the same length.
 fn found(heap: Global, input: &Input, expected: &Expected) -> Result<Expected, AllocError> {
