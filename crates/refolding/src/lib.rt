@@ -4,8 +4,10 @@
 
 ghost use Rattle.std.specs.Prelude.{◌≡◌, IfOk, IfErr};
 ghost use Rattle.layout.specs.Layout.{text_of};
+ghost use Rattle.layout.specs.Reading.{graph_of};
 ghost use Rattle.table.specs.Meaning.{graph_held};
 ghost use Rattle.refolding.specs.Printed.{too_long, refolded, IsFaultRow, IsTable, IsRefusal};
+ghost use Rattle.refolding.specs.Reduced.{Reduced};
 
 use calls::Call;
 use fault::{Fault, Kind, Layer};
@@ -44,9 +46,12 @@ fn accepted(heap: Global, table: Table) -> Result<Vec<u8>, AllocError>
     table_text(heap, &run(table, &[Call::Sweep, Call::Fold]))
 }
 
-// Reads a text of at most 65,536 bytes as a section table, sweeps and folds it, and answers its table, or the row of the refusal.
+// Reads a text of at most 65,536 bytes as a section table, sweeps and folds it, and answers its table, or the row of the refusal. The
+// table reads back as a graph whose roots unfold as they did, and no graph with such roots has fewer sections.
+#[tactic(auto, using(crate::proofs::Reducing::reduces))]
 pub fn refold(heap: Global, text: Vec<u8>) -> Result<Vec<u8>, Failure>
     ensures table { IfOk result (IsTable text.items) }
+    ensures law { IfOk result (λ v. Reduced (graph_of text.items) v.items) }
     ensures refusal { IfErr result (IsRefusal text.items) }
 {
     if text.len() > 65536 {
