@@ -1,22 +1,23 @@
 # An independent reading of an object after docs/OBJECT.md.
 import struct,sys
 class Bad(Exception): pass
+def refuse(k,p,l=2): raise Bad((k,p,l))
 ABS={0,2,3,4,9,17,18,0x6fff4c03}
-def read(b):
+# `no` is told of each check that does not hold, in order; by itself it ends the reading at the first
+def read(b,no=refuse):
     L=len(b)
     def u16(p): return struct.unpack_from('<H',b,p)[0]
     def u32(p): return struct.unpack_from('<I',b,p)[0]
     def u64(p): return struct.unpack_from('<Q',b,p)[0]
     def i64(p): return struct.unpack_from('<q',b,p)[0]
-    def no(k,p,l=2): raise Bad((k,p,l))
-    if L<64: no(1,L,1)
+    if L<64: return no(1,L,1)
     if b[:7]!=bytes([0x7f,0x45,0x4c,0x46,2,1,1]): no(2,0)
     if u16(16)!=1: no(2,16)
     if u16(58)!=64: no(2,58)
     n=u16(60)
     if not 1<=n<=1024: no(3,60)
     off=u64(40)
-    if off+64*n>L: no(1,40,1)
+    if off+64*n>L: return no(1,40,1)
     S=[]
     for i in range(n):
         p=off+64*i
@@ -33,7 +34,7 @@ def read(b):
     for i,s in enumerate(S):
         if s['t']==2:
             if tab is not None: no(5,s['p']+4)
-            tab=i
+            else: tab=i
     syms=[]
     def table(s,limit):
         if s['e']!=24: no(5,s['p']+56)
@@ -48,8 +49,8 @@ def read(b):
             syms.append((x,v))
             if x in(0,0xfff1,0xfff2): continue
             if x>=0xff00: no(5,q+6)
-            if x>=n: no(4,q+6)
-            if S[x]['present'] and v>S[x]['z']: no(5,q+8)
+            elif x>=n: no(4,q+6)
+            elif S[x]['present'] and v>S[x]['z']: no(5,q+8)
     out=lambda x: x in(0,0xfff1,0xfff2)
     parts={}
     for i,s in enumerate(S):
@@ -66,10 +67,12 @@ def read(b):
             q=s['o']+24*j
             if u64(q)>=t['z']: no(5,q)
             y=u64(q+8)>>32
-            if y>=len(syms) or not(out(syms[y][0]) or S[syms[y][0]]['present']): no(4,q+8)
+            reached=y<len(syms) and (out(syms[y][0]) or S[syms[y][0]]['present'])
+            if not reached: no(4,q+8)
             a=i64(q+16)
             if not -2**31<=a<2**31: no(5,q+16)
             k=u64(q+8)&0xffffffff
+            if not reached: continue
             if out(syms[y][0]): rs.append((u64(q),k,1,y,a))
             else: rs.append((u64(q),k,0,syms[y][0],syms[y][1]+a))
         parts[s['i']]=rs
@@ -77,19 +80,19 @@ def read(b):
     for i,s in enumerate(S):
         if s['t']==0x6fff4c03:
             if sig is not None: no(5,s['p']+4)
-            sig=i
+            else: sig=i
     listed=set()
     if sig is not None:
         s=S[sig]; p=s['o']; e=s['o']+s['z']
         while p<e:
             v=0;k=0
             while True:
-                if p+k>=e or k>=5: no(5,p,1)
+                if p+k>=e or k>=5: return no(5,p,1)
                 v|=(b[p+k]&127)<<(7*k); k+=1
                 if b[p+k-1]<128: break
             if v>=2**32: no(5,p,1)
-            if v>=len(syms): no(4,p)
-            if not out(syms[v][0]): listed.add(syms[v][0])
+            elif v>=len(syms): no(4,p)
+            elif not out(syms[v][0]): listed.add(syms[v][0])
             p+=k
     R=[];B={}
     for i,s in enumerate(S):
@@ -99,6 +102,26 @@ def read(b):
         fold=s['t']==1 and not root and not s['f']&(1|0x10|0x80|0x400) and sig is not None and i not in listed
         B[i]=(s['f']&~0x200,s['a'] or 1,bytes(s['z']) if s['t']==8 else b[s['o']:s['o']+s['z']],0 if fold else 1,parts.get(i,[]))
     return n,B,R
+# all checks that do not hold, as far as one can read on
+def faults(b):
+    found=[]
+    try: read(b,lambda k,p,l=2: found.append((k,p,l)))
+    except (struct.error,IndexError,OverflowError): pass
+    return found
+# the name of a section, or None; of any bytes
+def section_name(b,i):
+    L=len(b)
+    if L<64: return None
+    n,names=struct.unpack_from('<HH',b,60)
+    off=struct.unpack_from('<Q',b,40)[0]
+    def header(k): return off+64*k if k<n and off+64*k+64<=L else None
+    p=header(i); t=header(names) if names else None
+    if p is None or t is None: return None
+    o,z=struct.unpack_from('<QQ',b,t+24)
+    if o+z>L: return None
+    table=b[o:o+z]; at=struct.unpack_from('<I',b,p)[0]
+    end=table.find(b'\0',at) if at<=len(table) else -1
+    return None if end<0 else table[at:end]
 def text(g):
     n,B,R=g
     w=lambda c,*a: c+''.join('%12d'%x for x in a)+'\n'

@@ -1,13 +1,14 @@
 -- The answers to the questions, from what is read and noted.
-use Rattle.std.proofs.Common.{slice_index_or, IfSome, ◌≡◌, ℕ, ◌+◌, ◌*◌, ◌/◌, ◌<◌, ◌≤◌, max, Bool, true, false, cond, not, ◌&&◌, ◌==◌, leb, List, map, length, get_or, take, drop, replicate, is_some, Some, None, Ok, Err, Option, sym, refl, ap, ◌∙◌, subst, arith}
+use Rattle.std.proofs.Common.{slice_index_or, IfSome, ◌≡◌, ℕ, ◌+◌, zero, suc, ◌*◌, ◌/◌, ◌%◌, ◌<◌, ◌≤◌, max, Bool, true, false, cond, not, ◌&&◌, ◌==◌, leb, List, [], ◌∷◌, map, length, get_or, take, drop, replicate, is_some, Some, None, Ok, Err, Option, sym, refl, ap, ◌∙◌, subst, arith}
 use Rattle.std.specs.List.{slice_get, range_with_len}
 use Rattle.std.specs.Result.{result_unwrap_or}
 use Rattle.std.proofs.lemmas.Bool.{ne_eqb, eqb-true, eqb-false, le-leb, leb-false}
-use Rattle.std.proofs.lemmas.List.{get_or_read, get_or-map, get_or-take, get_or-drop, length-take, length-drop}
+use Rattle.std.proofs.lemmas.List.{get_or-drop, take-replicate}
 use Rattle.std.proofs.lemmas.List.FromFn.{get_or-map-range_with_len, length-map-range_with_len}
 use Rattle.std.proofs.lemmas.Option.{slice_get-get_or, slice_get_past}
 use Rattle.model.specs.declared.Setting.TheVariants.{Foldable, Pinned}
-use Rattle.model.specs.Graph.{Body, section_of, count_of, told_record, record_of, told_byte, byte_of, told_relocation, relocation_of}
+use Rattle.graph.specs.Bytes.{bytes_in, bytes_of as section_bytes}
+use Rattle.model.specs.Graph.{Graph, Body, section_of, count_of, told_record, record_of, told_byte, byte_of, told_relocation, relocation_of}
 use Rattle.elf.specs.declared.Header.{Header}
 use Rattle.elf.specs.Layout.{sections, section, present, plain, entry_at}
 use Rattle.rules.specs.Rules.{part, symbol}
@@ -58,31 +59,51 @@ listed_noted b x s w l = ap (λ (o : Option (List Bool)). unlisted o s) w.listed
     go None = refl
     go (Some a) = ap not (get_or-map-range_with_len (listed_in b (listing b)) 0 1024 s s false l (omega arith))
 
--- byte i of a section
-byte_in : (b : List ℕ) (s i : ℕ) (h : Header) → Seen b s h → byte_of (meaning b) s i ≡ slice_get (bytes_of b h) i
-byte_in b s i h w = ap (λ (o : Option Body). told_byte o i) w.body ∙ ap (λ (x : Header). slice_get (bytes_of b x) i) (sym w.header)
+-- the bytes of a section
+bytes_seen : (b : List ℕ) (s : ℕ) (h : Header) → Seen b s h → section_bytes (meaning b) s ≡ bytes_of b h
+bytes_seen b s h w = ap bytes_in w.body ∙ ap (bytes_of b) (sym w.header)
 
-byte_some : (b : List ℕ) (s i : ℕ) (h : Header) → Seen b s h → i < h.size → (h.kind ≡ 8 → ⊥) → byte_of (meaning b) s i ≡ Some (low (get_or b (h.offset + i) 0))
-byte_some b s i h w l k =
-    let len = bytes_length b h w.sound
-    in let here : i < length (bytes_of b h) = omega arith
-    in byte_in b s i h w
-    ∙ (slice_get-get_or (bytes_of b h) i 0 here
-    ∙ ap Some
-    (ap (λ (t : Bool). get_or (cond t (replicate h.size 0) (map low (take h.size (drop h.offset b)))) i 0) (ne_eqb h.kind 8 k)
-    ∙ (get_or-map low (take h.size (drop h.offset b)) i 0 0 (shorter (w.sound.ends k))
-    ∙ ap low (get_or-take h.size (drop h.offset b) i 0 l ∙ get_or-drop h.offset b i 0))))
+pub zeros_are : (b : List ℕ) (s : ℕ) (h : Header) → Seen b s h → h.kind ≡ 8 → replicate h.size 0 ≡ section_bytes (meaning b) s
+zeros_are b s h w k =
+    let eight : (h.kind == 8) ≡ true = ap (λ (x : ℕ). x == 8) k
+    in sym (bytes_seen b s h w ∙ ap (λ (t : Bool). cond t (replicate h.size 0) (map low (take h.size (drop h.offset b)))) eight)
+
+pub slice_is : (b : List ℕ) (s : ℕ) (h : Header) → Seen b s h → (h.kind ≡ 8 → ⊥) → map low (take h.size (drop h.offset b)) ≡ section_bytes (meaning b) s
+slice_is b s h w k =
+    sym (bytes_seen b s h w ∙ ap (λ (t : Bool). cond t (replicate h.size 0) (map low (take h.size (drop h.offset b)))) (ne_eqb h.kind 8 k))
+
+pub zeros_taken : (n m : ℕ) → n ≤ m → take n (replicate {A = ℕ} m 0) ≡ replicate {A = ℕ} n 0
+zeros_taken n m l = take-replicate {X = ℕ} n m 0 l
+
+-- bytes are what they are
+low_same : (xs : List ℕ) → ((k : ℕ) → get_or xs k 0 < 256) → map low xs ≡ xs
+low_same [] h = refl
+low_same (x ∷ xs) h =
+    let here : x % 256 ≡ x = omega (arith, h 0)
+    in let rest : map low xs ≡ xs = low_same xs (λ k. h (suc k))
+    in cc
+
+low_taken : (n : ℕ) (xs : List ℕ) → ((k : ℕ) → get_or xs k 0 < 256) → (k : ℕ) → get_or (take n xs) k 0 < 256
+low_taken zero xs h k = omega arith
+low_taken (suc n) [] h k = omega arith
+low_taken (suc n) (x ∷ xs) h zero = h 0
+low_taken (suc n) (x ∷ xs) h (suc k) = low_taken n xs (λ j. h (suc j)) k
+
+pub slice_low : (b : List ℕ) (from size : ℕ) → ((k : ℕ) → get_or b k 0 < 256) → take size (drop from b) ≡ map low (take size (drop from b))
+slice_low b from size h =
+    sym (low_same (take size (drop from b)) (low_taken size (drop from b) (λ k. subst (λ (x : ℕ). x < 256) (sym (get_or-drop from b k 0)) (h (from + k)))))
+
+-- an absent section has no bytes
+pub bytes_absent : (g : Graph) (s : ℕ) → section_of g s ≡ None → [] ≡ section_bytes g s
+bytes_absent g s e = sym (ap bytes_in e)
+
+-- a byte of a section is one of its bytes
+pub byte_among : (g : Graph) (s i : ℕ) → slice_get (section_bytes g s) i ≡ byte_of g s i
+byte_among g s i = go (section_of g s)
   where
-    shorter : h.offset + h.size ≤ length b → i < length (take h.size (drop h.offset b))
-    shorter e = simp (length-take, length-drop) (omega arith)
-
-pub byte_read : (b : List ℕ) (s i x : ℕ) (h : Header) → Seen b s h → i < h.size → (h.kind ≡ 8 → ⊥) → x ≡ slice_index_or b (h.offset + i) x → x < 256
-    → byte_of (meaning b) s i ≡ Some x
-byte_read b s i x h w l k e m =
-    let ends = w.sound.ends k
-    in let read : x ≡ get_or b (h.offset + i) 0 = get_or_read b (h.offset + i) x (omega arith) e 0
-    in let same : low (get_or b (h.offset + i) 0) ≡ x = omega arith
-    in byte_some b s i h w l k ∙ ap Some same
+    go : (o : Option Body) → slice_get (bytes_in o) i ≡ told_byte o i
+    go None = refl
+    go (Some x) = refl
 
 -- what ends within the bytes is read
 pub part_read : {A : Type 0} (b : List ℕ) (p size : ℕ) (y : A) → p + size ≤ length b → within b p size y ≡ Ok y

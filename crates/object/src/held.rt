@@ -1,28 +1,59 @@
 // The reader of objects: what it holds, what it does, and its answers as a section graph, from the bytes and the notes on
 // them, with no search.
-ghost use Rattle.std.specs.Prelude.{◌≡◌, ◌<◌, true, ◌&&◌, [], if◌then◌else◌, length, Some, None, MatchOption, IfOk};
+ghost use Rattle.std.specs.Prelude.{◌≡◌, ◌+◌, ◌<◌, ◌≤◌, true, ◌&&◌, [], if◌then◌else◌, map, length, take, drop, replicate, Some, None, MatchOption, IfOk};
 ghost use Rattle.elf.specs.Layout.{sections, section, plain, entry_at};
 ghost use Rattle.model.specs.declared.Setting.TheVariants.{Foldable, Pinned};
-ghost use Rattle.model.specs.Graph.{empty, section_of, record_of, byte_of, relocation_of};
+ghost use Rattle.model.specs.Graph.{empty, section_of, record_of, relocation_of};
 ghost use Rattle.checklist.specs.Checks.{answer};
 ghost use Rattle.checklist.specs.Laws.{Verdict};
 ghost use Rattle.rules.specs.Rules.{part, symbol};
 ghost use Rattle.rules.specs.Notes.{parts, Noted};
 ghost use Rattle.rules.specs.Ending.{Ends};
 ghost use Rattle.rules.specs.Verdict.{checks, verdict};
-ghost use Rattle.object.specs.Meaning.{relocation_of_entry, relocations_in};
+ghost use Rattle.object.specs.Meaning.{low, relocation_of_entry, relocations_in};
 ghost use Rattle.object.specs.Held.{held, unlisted, Told, Ready};
 ghost use Rattle.object.specs.Facts.{Seen, PartSeen};
+ghost use Rattle.graph.specs.Bytes.{bytes_of, digest};
 
 use arrayvec::ArrayVec;
 use elf::{Entry, Header, Symbol, flag, kind, read_entry, read_section, read_symbol};
 use fault::Fault;
 use field::read;
-use graph::SectionGraph;
+use graph::{SectionGraph, mix};
 use model::{Record, Relocation, Setting, Target};
 use reading::examine;
 use rules::{Notes, Symbols};
 use std::alloc::Global;
+
+static ZEROS: [u8; 65535] = [0; 65535];
+
+// The bytes of a section that has room in memory and nothing in the file.
+fn zeros(size: usize) -> &'static [u8]
+    requires { size ≤ 65535 }
+    ensures { result.now ≡ replicate size 0 }
+{
+    &ZEROS[..size]
+}
+
+// The bytes of a section that the file has.
+fn slice_of(file: &[u8], from: usize, size: usize) -> &[u8]
+    requires { from + size ≤ length file.now }
+    ensures { result.now ≡ map low (take size (drop from file.now)) }
+{
+    &file[from..from + size]
+}
+
+// A digest of some bytes. By a loop, as that of `graph` is.
+#[tactic(auto, using(std::proofs::lemmas::List::drop_more, std::proofs::lemmas::List::drop_all))]
+fn digest_of(bytes: &[u8]) -> u64
+    ensures { result ≡ digest bytes.now }
+{
+    let mut digest = 14695981039346656037;
+    for x in bytes {
+        digest = mix(digest, u64::from(*x));
+    }
+    digest
+}
 
 // No section has relocations.
 #[tactic(auto, using(crate::proofs::Holding::none_parted))]
@@ -120,6 +151,17 @@ impl Object {
         told(y, e)
     }
 
+    // The bytes of section `s`; an absent one has none.
+    #[tactic(auto, using(crate::proofs::Showing::bytes_absent))]
+    fn bytes(&self, s: u16) -> &[u8]
+        ensures { result.now ≡ bytes_of (graph_of self.now) s }
+    {
+        let Some(x) = self.shown(s) else {
+            return &[];
+        };
+        x.bytes()
+    }
+
     // Section `s`, where it is present.
     #[tactic(auto, using(crate::proofs::Showing::count_told, crate::specs::Lawful::section_past, crate::proofs::Showing::shown_absent, crate::proofs::Showing::shown_seen))]
     fn shown(&self, s: u16) -> Option<Shown<'_>>
@@ -191,19 +233,17 @@ impl<'a> Shown<'a> {
         }
     }
 
-    // Its byte `i`.
-    #[tactic(auto, using(crate::proofs::Showing::byte_read))]
-    fn byte(&self, i: u16) -> Option<u8>
-        ensures { result ≡ byte_of (graph_of self.now.object.now) self.now.number i }
+    // Its bytes: of the file, or zeros.
+    #[tactic(auto, using(crate::proofs::Showing::zeros_are, crate::proofs::Showing::slice_is))]
+    fn bytes(&self) -> &'a [u8]
+        ensures { result.now ≡ bytes_of (graph_of self.now.object.now) self.now.number }
     {
         let h = self.header;
-        if i as u64 >= h.size {
-            return None;
-        }
         if h.kind == kind::NO_BITS {
-            return Some(0);
+            zeros(h.size as usize)
+        } else {
+            slice_of(&self.object.file, h.offset as usize, h.size as usize)
         }
-        Some(self.object.file[(h.offset + i as u64) as usize])
     }
 
     // Its relocation `j`.
@@ -255,8 +295,9 @@ impl SectionGraph for Object {
         Some(self.shown(s)?.record())
     }
 
+    #[tactic(auto, using(crate::proofs::Showing::byte_among))]
     fn byte(&self, s: u16, i: u16) -> Option<u8> {
-        self.shown(s)?.byte(i)
+        self.bytes(s).get(usize::from(i)).copied()
     }
 
     fn relocation(&self, s: u16, j: u16) -> Option<Relocation> {
@@ -269,5 +310,14 @@ impl SectionGraph for Object {
 
     fn root(&self, j: u16) -> Option<u16> {
         self.notes.roots.get(j as usize).copied()
+    }
+
+    // In place of a question for each byte.
+    fn byte_digest(&self, s: u16) -> u64 {
+        digest_of(self.bytes(s))
+    }
+
+    fn same_bytes(&self, s: u16, t: u16) -> bool {
+        self.bytes(s) == self.bytes(t)
     }
 }

@@ -1,5 +1,5 @@
 // Reads the objects of data/ and prints what was read as rows, then the verdicts on the small object with each of some
-// patches, and at last what damaged objects give. The output that is expected comes from tools/object_tests.py.
+// patches, and at last what damaged objects give, verdicts and names. The output that is expected comes from tools/object_tests.py.
 
 #![tactic(auto)]
 
@@ -8,6 +8,7 @@ use graph::SectionGraph;
 use model::{Setting, Target};
 use object::Object;
 use reading::examine;
+use section_names::section_name;
 use std::alloc::{AllocError, Global};
 use std::fs;
 
@@ -63,6 +64,14 @@ fn show(rt: &HostRuntime, o: &Object) -> anyhow::Result<()> {
     Ok(())
 }
 
+// The names of the sections of a file, as rows.
+fn show_names(rt: &HostRuntime, b: &[u8], count: u16) -> anyhow::Result<()> {
+    for (s, name) in (0..count).filter_map(|s| Some((s, section_name(b, s)?))) {
+        println!(rt; "N{s:>12} {}", name.escape_ascii())?;
+    }
+    Ok(())
+}
+
 // A refusal as a row.
 fn show_fault(rt: &HostRuntime, f: Fault) -> anyhow::Result<()> {
     let (kind, layer) = (u8::from(f.kind), u8::from(f.layer));
@@ -74,8 +83,13 @@ fn show_fault(rt: &HostRuntime, f: Fault) -> anyhow::Result<()> {
 fn read(rt: &HostRuntime, name: &str) -> anyhow::Result<()> {
     println!(rt; "{name}")?;
     let mut o = Object::new(rt.alloc());
-    match o.read(fs::read(rt, name)?) {
-        Ok(()) => show(rt, &o),
+    let file = fs::read(rt, name)?;
+    let copy = file.clone()?;
+    match o.read(file) {
+        Ok(()) => {
+            show(rt, &o)?;
+            show_names(rt, copy.as_slice(), o.count())
+        }
         Err(f) => show_fault(rt, f),
     }
 }
@@ -87,20 +101,28 @@ struct Change {
     byte: u8,
 }
 
-// A change as three bytes tell it, two for the place.
-fn told_change(told: &[u8]) -> Option<Change> {
-    match told {
-        [low, high, byte] => Some(Change {
-            place: usize::from(u16::from_le_bytes([*low, *high])),
-            byte: *byte,
-        }),
-        _ => None,
-    }
+// The number that four bytes begin with.
+fn told_number(told: &[u8]) -> Option<usize> {
+    Some(u32::from_le_bytes(*told.first_chunk()?) as usize)
 }
 
-// A copy of `b` with bytes at places.
-fn patched(heap: Global, b: &[u8], changes: &[Change]) -> Result<Vec<u8>, AllocError> {
-    let mut copy = b.to_vec(heap)?;
+// A change as five bytes tell it, four for the place.
+fn told_change(told: &[u8]) -> Option<Change> {
+    Some(Change {
+        place: told_number(told)?,
+        byte: *told.get(4)?,
+    })
+}
+
+// A copy of `b` of some length, cut or with zeros behind, with bytes at places.
+fn patched(
+    heap: Global,
+    b: &[u8],
+    length: usize,
+    changes: &[Change],
+) -> Result<Vec<u8>, AllocError> {
+    let mut copy = b[..b.len().min(length)].to_vec(heap)?;
+    copy.resize(length, 0)?;
     for change in changes {
         if let Some(old) = copy.get_mut(change.place) {
             *old = change.byte;
@@ -109,63 +131,95 @@ fn patched(heap: Global, b: &[u8], changes: &[Change]) -> Result<Vec<u8>, AllocE
     Ok(copy)
 }
 
-// The verdict on one patched object after another; a patch is a count and so many places with a byte.
+// The verdict on one patched object after another. A patch is the length of the object, a count, and so many places with a
+// byte: so a few bytes tell of an object at the limits.
 fn patches(rt: &HostRuntime, b: &[u8], list: &[u8]) -> anyhow::Result<()> {
     let mut rest = list;
-    while let Some((count, after)) = rest.split_first()
-        && let Some((changes, next)) = after.split_at_checked(3 * usize::from(*count))
+    while let Some((head, after)) = rest.split_at_checked(5)
+        && let Some(length) = told_number(head)
+        && let Some((changes, next)) = after.split_at_checked(5 * usize::from(head[4]))
     {
-        // a patch of no places has no verdict
-        if !changes.is_empty() {
-            let told: Vec<Change> = changes
-                .chunks(3)
-                .filter_map(told_change)
-                .collect(rt.alloc())?;
-            match examine(patched(rt.alloc(), b, told.as_slice())?.as_slice()) {
-                Ok(_) => println!(rt; "accepted")?,
-                Err(f) => show_fault(rt, f)?,
-            }
+        let told: Vec<Change> = changes
+            .chunks(5)
+            .filter_map(told_change)
+            .collect(rt.alloc())?;
+        match examine(patched(rt.alloc(), b, length, told.as_slice())?.as_slice()) {
+            Ok(_) => println!(rt; "accepted")?,
+            Err(f) => show_fault(rt, f)?,
         }
         rest = next;
     }
     Ok(())
 }
 
-// How many objects were accepted so far, and a digest of the verdicts.
+// How many objects were accepted so far, or how many names were found, and a digest of the verdicts or the names.
 #[derive(Clone, Copy, Default)]
 struct Tally {
-    accepted: u32,
+    good: u32,
     digest: u32,
 }
 
 impl Tally {
+    fn mix(&mut self, x: u32) {
+        self.digest = self.digest.wrapping_mul(31).wrapping_add(x);
+    }
+
     // One verdict more.
-    fn add(&mut self, b: &[u8]) {
-        self.digest = self.digest.wrapping_mul(31);
+    fn add_verdict(&mut self, b: &[u8]) {
         match examine(b) {
-            Ok(_) => self.accepted = self.accepted.wrapping_add(1),
+            Ok(_) => {
+                self.good = self.good.wrapping_add(1);
+                self.mix(0);
+            }
             Err(f) => {
                 let place = (f.place % 4294967296) as u32;
-                self.digest = self
-                    .digest
-                    .wrapping_add(u32::from(u8::from(f.kind)) * 7)
-                    .wrapping_add(place.wrapping_mul(3))
-                    .wrapping_add(u32::from(u8::from(f.layer)) + 1);
+                let numbers = u32::from(u8::from(f.kind)) * 7 + u32::from(u8::from(f.layer)) + 1;
+                self.mix(place.wrapping_mul(3).wrapping_add(numbers));
+            }
+        }
+    }
+
+    // The names of the first sections more, of a file that may be no object.
+    fn add_names(&mut self, b: &[u8]) {
+        for s in 0..16 {
+            self.mix(0);
+            if let Some(name) = section_name(b, s) {
+                self.good = self.good.wrapping_add(1);
+                for x in name {
+                    self.mix(u32::from(*x) + 1);
+                }
             }
         }
     }
 }
 
+// Verdicts and names of objects that are damaged.
+#[derive(Clone, Copy, Default)]
+struct Damage {
+    verdicts: Tally,
+    names: Tally,
+}
+
+impl Damage {
+    fn add(&mut self, b: &[u8]) {
+        self.verdicts.add_verdict(b);
+        self.names.add_names(b);
+    }
+}
+
 // Each byte set to 0, to 255 and flipped, and the object cut before it.
 fn sweep(rt: &HostRuntime, b: &[u8]) -> anyhow::Result<()> {
-    let mut tally = Tally::default();
+    let mut damage = Damage::default();
     for (place, x) in b.iter().enumerate() {
         for byte in [0, 255, *x ^ 255] {
-            tally.add(patched(rt.alloc(), b, &[Change { place, byte }])?.as_slice());
+            let changed = patched(rt.alloc(), b, b.len(), &[Change { place, byte }])?;
+            damage.add(changed.as_slice());
         }
-        tally.add(&b[..place]);
+        damage.add(&b[..place]);
     }
-    println!(rt; "swept{:>12}{:>12}", tally.accepted, tally.digest)?;
+    let Damage { verdicts, names } = damage;
+    println!(rt; "swept{:>12}{:>12}", verdicts.good, verdicts.digest)?;
+    println!(rt; "named{:>12}{:>12}", names.good, names.digest)?;
     Ok(())
 }
 

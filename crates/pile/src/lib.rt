@@ -6,8 +6,9 @@
 
 #![tactic(auto)]
 
-ghost use Rattle.std.specs.Prelude.{◌≡◌, None};
+ghost use Rattle.std.specs.Prelude.{◌≡◌, [], None};
 ghost use Rattle.model.specs.Graph.{count_of, record_of, byte_of, relocation_of, root_count_of, root_of};
+ghost use Rattle.graph.specs.Bytes.{digest};
 ghost use Rattle.steps.specs.Below.{table as listed};
 ghost use Rattle.unfolding.specs.Groups.{present};
 ghost use Rattle.unfolding.specs.Reach.{reached};
@@ -22,7 +23,7 @@ ghost use Rattle.pile.specs.Piling.{pile_valid};
 
 use calls::{Answer, Call, Place};
 use fault::Fault;
-use graph::SectionGraph;
+use graph::{SectionGraph, size_told};
 use ledger::Ledger;
 use model::{Record, Relocation};
 use partition::partition;
@@ -55,6 +56,13 @@ fn presence<G: SectionGraph>(graph: &G) -> Present
         there: array::from_fn(|s| is_present(graph, s as u16)),
         count: graph.count(),
     }
+}
+
+// The digest of no bytes.
+fn digest_of_none() -> u64
+    ensures { result ≡ digest [] }
+{
+    14695981039346656037
 }
 
 // A pile is a section graph again.
@@ -97,6 +105,24 @@ impl<G: SectionGraph> SectionGraph for Pile<G> {
     fn root(&self, j: u16) -> Option<u16> {
         self.table
             .root(self.below.root_count(), j, self.below.root(j))
+    }
+
+    // The bytes of a section that is left are those below, which the graph below may go over faster.
+    #[tactic(auto, using(crate::proofs::Bytes::digest_gone, crate::proofs::Bytes::digest_left))]
+    fn byte_digest(&self, s: u16) -> u64 {
+        if size_told(self.record_of(s)) == 0 {
+            return digest_of_none();
+        }
+        self.below.byte_digest(s)
+    }
+
+    #[tactic(auto, using(crate::proofs::Bytes::differ_in_size, crate::proofs::Bytes::both_gone, crate::proofs::Bytes::both_left, crate::proofs::Bytes::both_below))]
+    fn same_bytes(&self, s: u16, t: u16) -> bool {
+        let size = size_told(self.record_of(s));
+        if size != size_told(self.record_of(t)) {
+            return false;
+        }
+        size == 0 || self.below.same_bytes(s, t)
     }
 }
 

@@ -236,8 +236,7 @@ impl Placed {
     }
 
     // That the section holds entries of 24 bytes, at most `limit`; how many.
-    pub fn entry_count(self, limit: u64) -> Result<u32, Fault>
-        requires { limit ≤ 65536 }
+    pub fn entry_count(self, limit: u32) -> Result<u32, Fault>
         ensures { result ≡ answer (first_fault (table_checks limit self.place self.header)) (self.header.size / 24) }
     {
         let h = self.header;
@@ -247,7 +246,7 @@ impl Placed {
         if h.size % 24 != 0 {
             return Err(refusal(Kind::Misshapen, self.place + 32));
         }
-        if h.size / 24 > limit {
+        if h.size / 24 > u64::from(limit) {
             return Err(refusal(Kind::Oversize, self.place + 32));
         }
         Ok((h.size / 24) as u32)
@@ -344,10 +343,9 @@ pub fn is_number(found: Option<u16>, link: u32) -> bool
 
 // Whether relocations are noted for section `t`.
 pub fn noted(parts: &[Option<u16>; 1024], t: u32) -> bool
-    requires { t < 1024 }
     ensures { result ≡ is_some (slice_index_or parts.now t None) }
 {
-    parts[t as usize].is_some()
+    matches!(parts.get(t as usize), Some(Some(_)))
 }
 
 // Marks the section of a symbol.

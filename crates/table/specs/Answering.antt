@@ -1,12 +1,15 @@
 -- The questions to a reader, from what it holds.
-use Rattle.std.specs.Prelude.{◌≡◌, ℕ, true, List, [], drop, Some, None, Option, Result, unwrap_or, slice_index_or, refl}
+use Rattle.std.specs.Prelude.{◌≡◌, ℕ, ◌^◌, ◌<◌, true, Decides, bytes_eq, List, [], drop, Some, None, Option, Result, unwrap_or, slice_index_or, refl}
+use Rattle.std.specs.List.{AllByRecursion}
 use Rattle.std.proofs.Common.{sym, ap, subst, ◌∙◌, ⊎_elim, arith}
 use Rattle.std.specs.Option.{option_map, option_or}
 use Rattle.std.proofs.Math.Seq.{drop-nil}
 use Rattle.std.proofs.lemmas.Bool.{cond-false, le-ltb}
 use Rattle.model.specs.declared.Record.{Record}
-use Rattle.model.specs.Graph.{empty, count_of, record_of, byte_of, relocation_of, root_count_of, root_of}
+use Rattle.model.specs.Graph.{Body, empty, section_of, count_of, told_record, record_of, byte_of, relocation_of, root_count_of, root_of}
 use Rattle.model.specs.Laws.{Valid}
+use Rattle.graph.specs.Bytes.{bytes_in, bytes_of, digest}
+use Rattle.graph.proofs.Told.{byte_nth}
 use Rattle.lines.specs.Lines.{lines, row_start}
 use Rattle.row.specs.declared.Cause.{Cause}
 use Rattle.row.specs.Entry.{Entry}
@@ -14,10 +17,11 @@ use Rattle.row.specs.Reading.{read_row}
 use Rattle.layout.specs.Reading.{bad_row, graph_of, bad_row_at, dangling_at, dangling_from, fault_of}
 use Rattle.layout.proofs.Texts.{verdict_stands}
 use Rattle.table.specs.Notes.{starts_of}
-use Rattle.table.specs.Places.{sections_told, roots_told, record_told, rows_from, byte_in, relocation_in, root_in}
+use Rattle.table.specs.Places.{sections_told, roots_told, record_told, rows_from, byte_in, Tells, byte_rows, byte_rows_in, relocation_in, root_in}
+use Rattle.table.specs.ByteRows.{rows_decide}
 use Rattle.table.specs.Held.{held}
 use Rattle.table.specs.Outcomes.{held_parts, held_cases}
-use Rattle.table.specs.Questions.{sections_right, roots_right, none_read, record_right, none_byte, byte_right, relocation_right, root_right}
+use Rattle.table.specs.Questions.{sections_right, roots_right, none_read, record_right, none_byte, byte_right, no_rows, byte_rows_right, relocation_right, root_right}
 
 formed_from : (t : List ℕ) → fault_of t ≡ None → bad_row t ≡ None
 formed_from t h = go (bad_row t) h
@@ -81,6 +85,39 @@ pub byte_none : (s i : ℕ) (t : List ℕ) (xs : List (Option ℕ)) → held t x
     → None ≡ byte_of (graph_of t) s i
 byte_none s i t xs h e = sym (none_byte i) ∙ ap (λ (v : List ℕ). byte_in v i) (sym (rows_told t (slice_index_or xs s None) None e)) ∙ byte_held s i t xs h
 
+-- the bytes of a section together
+
+pub tells_some : (s : ℕ) (t : List ℕ) (xs : List (Option ℕ)) (u : List ℕ) → held t xs ≡ true → Some u ≡ option_map (λ p. drop p t) (slice_index_or xs s None)
+    → Tells u (bytes_of (graph_of t) s)
+tells_some s t xs u h e = λ i. byte_some s i t xs u h e ∙ byte_nth (section_of (graph_of t) s) i
+
+bytes_none : (s : ℕ) (t : List ℕ) (xs : List (Option ℕ)) → held t xs ≡ true → None ≡ option_map (λ p. drop p t) (slice_index_or xs s None)
+    → [] ≡ bytes_of (graph_of t) s
+bytes_none s t xs h e = go (section_of (graph_of t) s) (record_none s t xs h e)
+  where
+    go : (o : Option Body) → None ≡ told_record o → [] ≡ bytes_in o
+    go None r = refl
+    go (Some b) r = absurd (let z : ◌≡◌ {A = ℕ} 0 1 = cc in omega arith)
+
+pub digest_none : (s : ℕ) (t : List ℕ) (xs : List (Option ℕ)) → held t xs ≡ true → None ≡ option_map (λ p. drop p t) (slice_index_or xs s None)
+    → digest [] ≡ digest (bytes_of (graph_of t) s)
+digest_none s t xs h e = ap digest (bytes_none s t xs h e)
+
+byte_rows_held : (s : ℕ) (t : List ℕ) (xs : List (Option ℕ)) → held t xs ≡ true → byte_rows_in (rows_from t (slice_index_or xs s None)) ≡ byte_rows (bytes_of (graph_of t) s)
+byte_rows_held s =
+    by_text (λ t xs. byte_rows_in (rows_from t (slice_index_or xs s None)) ≡ byte_rows (bytes_of (graph_of t) s))
+    (λ xs. ap byte_rows_in (none_from (slice_index_or xs s None)) ∙ no_rows)
+    (λ t f. byte_rows_right t f s)
+
+pub byte_rows_some : (s : ℕ) (t : List ℕ) (xs : List (Option ℕ)) (u : List ℕ) → held t xs ≡ true → Some u ≡ option_map (λ p. drop p t) (slice_index_or xs s None)
+    → byte_rows_in u ≡ byte_rows (bytes_of (graph_of t) s)
+byte_rows_some s t xs u h e = ap byte_rows_in (sym (rows_told t (slice_index_or xs s None) (Some u) e)) ∙ byte_rows_held s t xs h
+
+pub byte_rows_none : (s : ℕ) (t : List ℕ) (xs : List (Option ℕ)) → held t xs ≡ true → None ≡ option_map (λ p. drop p t) (slice_index_or xs s None)
+    → [] ≡ byte_rows (bytes_of (graph_of t) s)
+unfolding byte_rows
+byte_rows_none s t xs h e = ap byte_rows (bytes_none s t xs h e)
+
 pub relocation_held : (s j : ℕ) (t : List ℕ) (xs : List (Option ℕ)) → held t xs ≡ true
     → relocation_in (rows_from t (slice_index_or xs s None)) (record_told (read_row (rows_from t (slice_index_or xs s None)))) j ≡ relocation_of (graph_of t) s j
 relocation_held s j t xs h =
@@ -120,3 +157,15 @@ valid_held t xs h =
     let p = held_parts t xs h in
     ⊎_elim (λ e. subst (λ (u : List ℕ). Valid (graph_of u)) (sym e) empty_valid)
     (λ f. ((verdict_stands t).accepted f).0) (held_cases t p.0)
+
+-- equal bytes have equal rows, and other bytes have others
+pub rows_decide_held : (s u : ℕ) (t : List ℕ) (xs : List (Option ℕ)) → held t xs ≡ true
+    → Decides (bytes_eq (byte_rows (bytes_of (graph_of t) s)) (byte_rows (bytes_of (graph_of t) u))) (bytes_of (graph_of t) s ≡ bytes_of (graph_of t) u)
+rows_decide_held s u t xs h = rows_decide _ _ (small s) (small u)
+  where
+    small : (v : ℕ) → AllByRecursion (λ b. b < 2 ^ 8) (bytes_of (graph_of t) v)
+    small v = go (section_of (graph_of t) v) refl
+      where
+        go : (o : Option Body) → section_of (graph_of t) v ≡ o → AllByRecursion (λ b. b < 2 ^ 8) (bytes_in o)
+        go None e = tt
+        go (Some b) e = ((valid_held t xs h).bodies v b e).bytes

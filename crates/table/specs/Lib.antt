@@ -7,4 +7,5 @@ pub mod Outcomes
 pub mod Questions
 pub mod Spots
 pub mod Distances
+pub mod ByteRows
 pub mod Walk

@@ -1,12 +1,13 @@
 -- What the reader of a table finds at the places that it computes.
-use Rattle.std.specs.Prelude.{ℕ, ◌+◌, ◌-◌, ◌*◌, ◌/◌, ◌%◌, cond, List, [], length, take, drop, ℤ, pos, negsuc, Some, None, Ok, Err, Option, Result, unwrap_or, nat_lt}
+use Rattle.std.specs.Prelude.{◌≡◌, ℕ, ◌+◌, ◌-◌, ◌*◌, ◌/◌, ◌%◌, cond, List, [], length, take, drop, ℤ, pos, negsuc, Some, None, Ok, Err, Option, Result, unwrap_or, nat_lt}
+use Rattle.std.specs.List.{flat_map, slice_get}
 use Rattle.column.specs.Columns.{read_column}
 use Rattle.model.specs.declared.Record.{Record}
 use Rattle.model.specs.declared.Relocation.{Relocation}
 use Rattle.row.specs.declared.Cause.{Cause}
-use Rattle.row.specs.Entry.{Entry, header, section, bytes, relocation, root, end}
+use Rattle.row.specs.Entry.{Entry, header, section, bytes, relocation, root, end, render}
 use Rattle.row.specs.Reading.{read_row}
-use Rattle.layout.specs.Layout.{relocation_place}
+use Rattle.layout.specs.Layout.{with_bytes, bytes_length, relocation_place}
 
 -- the numbers of the first row: how many sections, and how many roots
 abbrev pub sections_told : Result Entry Cause → ℕ
@@ -75,10 +76,25 @@ size_told None = None
 size_told (Some (pos n)) = cond (nat_lt n 65536) (Some n) None
 size_told (Some (negsuc n)) = None
 
+-- the size that a section's row tells, from that row on: 0 where it tells none
+abbrev pub size_in : List ℕ → ℕ
+size_in u = unwrap_or (size_told (read_column (take 12 (drop 37 u)))) 0
+
 -- byte i of a section, from its row on: none where the row tells no size
 abbrev pub byte_in : List ℕ → ℕ → Option ℕ
-byte_in u i =
-    cond (nat_lt i (unwrap_or (size_told (read_column (take 12 (drop 37 u)))) 0)) (byte_told (read_column (take 4 (drop (byte_place i) u)))) None
+byte_in u i = cond (nat_lt i (size_in u)) (byte_told (read_column (take 4 (drop (byte_place i) u)))) None
+
+-- the text from a section's row on tells these bytes
+abbrev pub Tells : List ℕ → List ℕ → Type 0
+Tells u bs = (i : ℕ) → byte_in u i ≡ slice_get bs i
+
+-- the text of the rows of some bytes
+unfoldable pub byte_rows : List ℕ → List ℕ
+byte_rows bs = flat_map render (with_bytes (length bs) bs [])
+
+-- the rows of a section's bytes, from its row on
+unfoldable pub byte_rows_in : List ℕ → List ℕ
+byte_rows_in u = take (bytes_length (size_in u)) (drop 74 u)
 
 -- relocation j of a section, from its row on and by its record
 abbrev pub relocation_in : List ℕ → Option Record → ℕ → Option Relocation

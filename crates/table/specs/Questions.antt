@@ -1,11 +1,12 @@
 -- Every question is answered by the graph that the text tells.
 use Rattle.std.specs.Prelude.{◌≡◌, ℕ, ◌+◌, ◌-◌, ◌*◌, ◌^◌, ◌<◌, ◌≤◌, Bool, cond, true, false, not, ◌⊎◌, List, [], ◌∷◌, ◌++◌, map, length, take, drop, ℤ, pos, is_some, Some, None, Err, Option, Result, unwrap_or, nat_lt, slice_index, slice_index_or, refl}
 use Rattle.std.proofs.Common.{sym, ap, subst, ◌∙◌, inl, inr, arith, zero-add}
-use Rattle.std.specs.List.{slice_get, AllByRecursion}
+use Rattle.std.specs.List.{flat_map, slice_get, AllByRecursion}
 use Rattle.std.specs.Option.{option_map}
 use Rattle.fault.specs.declared.Fault.{Fault}
 use Rattle.fault.specs.Refusal.{ok_unless}
-use Rattle.std.proofs.lemmas.List.{append_assoc, get_or-replicate, get_or_past}
+use Rattle.std.proofs.Math.Seq.{take-nil}
+use Rattle.std.proofs.lemmas.List.{append_assoc, get_or-replicate, get_or_past, take_at}
 use Rattle.std.proofs.ByRecursion.{All-get_or, All-weaker}
 use Rattle.std.proofs.lemmas.Option.{slice_get-get_or, slice_get_past}
 use Rattle.std.proofs.lemmas.Bool.{cases_lt, lt-ltb, le-ltb, cond-false}
@@ -16,6 +17,7 @@ use Rattle.model.specs.declared.Record.{Record}
 use Rattle.model.specs.declared.Relocation.{Relocation}
 use Rattle.model.specs.declared.Target.TheVariants.{Section}
 use Rattle.model.specs.Graph.{Body, record_in, section_of, told_record, told_byte, told_relocation}
+use Rattle.graph.specs.Bytes.{bytes_in, bytes_of}
 use Rattle.lines.specs.Lines.{lines}
 use Rattle.row_part.specs.declared.Cause.{Cause}
 use Rattle.row_part.specs.declared.Cause.TheVariants.{Letter}
@@ -29,7 +31,8 @@ use Rattle.layout.proofs.Texts.{row_itself, lines_text, formed_text}
 use Rattle.layout.proofs.Ranges.{ranged_entries, count_below}
 use Rattle.layout.proofs.Aims.{present_below}
 use Rattle.table.specs.Notes.{note, noted, no_notes, starts_of, unnoted, target_on, targets_from}
-use Rattle.table.specs.Places.{sections_told, roots_told, record_told, relocation_told, root_told, rows_from, byte_place, byte_told, size_told, byte_in, relocation_in, root_in}
+use Rattle.table.specs.Places.{sections_told, roots_told, record_told, relocation_told, root_told, rows_from, byte_place, byte_told, size_in, size_told, byte_in, byte_rows, byte_rows_in, relocation_in, root_in}
+use Rattle.table.specs.ByteRows.{rows_before, rows_length}
 use Rattle.table.specs.Spots.{Stands, stands_next, notes, Spot, sections_noted, past_sections}
 use Rattle.table.specs.Distances.{stands_read, stands_after, past_bytes, byte_spot, relocation_spot, root_spot, roots_place}
 
@@ -64,6 +67,11 @@ none_read = refl
 pub none_byte : (i : ℕ) → byte_in [] i ≡ None
 unfolding read_column
 none_byte i = cond-false (nat_lt i 0) _ _ (le-ltb i 0 (omega arith))
+
+-- nor rows of bytes
+pub no_rows : byte_rows_in [] ≡ byte_rows []
+unfolding byte_rows_in byte_rows
+no_rows = take-nil _
 
 -- a text whose rows form
 module _ (t : List ℕ) (formed : bad_row t ≡ None) where
@@ -145,18 +153,18 @@ module _ (t : List ℕ) (formed : bad_row t ≡ None) where
   size_value : (n : ℕ) → n < 2 ^ 16 → unwrap_or (size_told (Some (pos n))) 0 ≡ n
   size_value n h = ap (λ (c : Bool). unwrap_or (cond c (Some n) None) 0) (lt-ltb n 65536 h)
 
+  size_row : (s : ℕ) (b : Body) (u : List ℕ) → section_of (graph_of t) s ≡ Some b → Rows s (Some b) u → size_in u ≡ length b.bytes
+  size_row s b u e h =
+      ap size_in h.1
+      ∙ ap (λ (z : Option ℤ). unwrap_or (size_told z) 0) (size_column s (record_in b) _ (section_ranged s b e))
+      ∙ size_value (length b.bytes) (laws.bodies s b e).size
+
   byte_row : (s : ℕ) (b : Body) (u : List ℕ) (i : ℕ) → section_of (graph_of t) s ≡ Some b → Rows s (Some b) u → byte_in u i ≡ slice_get b.bytes i
   byte_row s b u i e h =
-      ap (λ (n : ℕ). cond (nat_lt i n) (byte_told (read_column (take 4 (drop (byte_place i) u)))) None) size ∙ go (cases_lt i (length b.bytes))
+      ap (λ (n : ℕ). cond (nat_lt i n) (byte_told (read_column (take 4 (drop (byte_place i) u)))) None) (size_row s b u e h) ∙ go (cases_lt i (length b.bytes))
     where
       values : AllByRecursion (λ x. x < 2 ^ 8) b.bytes
       values = (laws.bodies s b e).bytes
-
-      size : unwrap_or (size_told (read_column (take 12 (drop 37 u)))) 0 ≡ length b.bytes
-      size =
-          ap (λ (v : List ℕ). unwrap_or (size_told (read_column (take 12 (drop 37 v)))) 0) h.1
-          ∙ ap (λ (z : Option ℤ). unwrap_or (size_told z) 0) (size_column s (record_in b) _ (section_ranged s b e))
-          ∙ size_value (length b.bytes) (laws.bodies s b e).size
 
       go : (i < length b.bytes) ⊎ (length b.bytes ≤ i)
           → cond (nat_lt i (length b.bytes)) (byte_told (read_column (take 4 (drop (byte_place i) u)))) None ≡ slice_get b.bytes i
@@ -175,6 +183,26 @@ module _ (t : List ℕ) (formed : bad_row t ≡ None) where
       go : (o : Option Body) → section_of (graph_of t) s ≡ o → (u : List ℕ) → Rows s o u → byte_in u i ≡ told_byte o i
       go None e u h = ap (λ (v : List ℕ). byte_in v i) h ∙ none_byte i
       go (Some b) e u h = byte_row s b u i e h
+
+  -- the rows of a section's bytes
+
+  byte_rows_row : (s : ℕ) (b : Body) (u : List ℕ) → section_of (graph_of t) s ≡ Some b → Rows s (Some b) u → byte_rows_in u ≡ byte_rows b.bytes
+  unfolding byte_rows_in
+  byte_rows_row s b u e h =
+      let rest : List Entry = with_relocations b.relocations h.0 in
+      let there : drop 74 u ≡ byte_rows b.bytes ++ flat_map render rest =
+      stands_after u 0 (section s (record_in b)) _ (section_ranged s b e) h.1 ∙ rows_before b.bytes rest in
+      let long : size_in u ≡ length b.bytes = size_row s b u e h in
+      ap (λ (n : ℕ). take (bytes_length n) (drop 74 u)) long
+      ∙ ap (take (bytes_length (length b.bytes))) there
+      ∙ take_at (byte_rows b.bytes) (flat_map render rest) (bytes_length (length b.bytes)) (rows_length b.bytes (laws.bodies s b e).bytes)
+
+  pub byte_rows_right : (s : ℕ) → byte_rows_in (rows_from t (slice_index_or (starts_of t) s None)) ≡ byte_rows (bytes_of (graph_of t) s)
+  byte_rows_right s = go (section_of (graph_of t) s) refl (rows_from t (slice_index_or (starts_of t) s None)) (rows_at s)
+    where
+      go : (o : Option Body) → section_of (graph_of t) s ≡ o → (u : List ℕ) → Rows s o u → byte_rows_in u ≡ byte_rows (bytes_in o)
+      go None e u h = ap byte_rows_in h ∙ no_rows
+      go (Some b) e u h = byte_rows_row s b u e h
 
   relocation_row : (s : ℕ) (b : Body) (u : List ℕ) (j : ℕ) → section_of (graph_of t) s ≡ Some b → Rows s (Some b) u → relocation_in u (Some (record_in b)) j ≡ slice_get b.relocations j
   relocation_row s b u j e h = go (slice_get b.relocations j) refl (cases_lt j (length b.relocations))

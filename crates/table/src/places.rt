@@ -1,13 +1,16 @@
 // Reading at computed places: rows have known lengths, so no question searches.
-ghost use Rattle.std.specs.Prelude.{◌≡◌, ◌-◌, ◌<◌, ◌≤◌, length, take, drop};
+ghost use Rattle.std.specs.Prelude.{◌≡◌, ◌-◌, ◌<◌, ◌≤◌, ℕ, List, length, take, drop};
 ghost use Rattle.column.specs.Columns.{read_column};
+ghost use Rattle.graph.specs.Bytes.{digest};
 ghost use Rattle.row.specs.Reading.{read_row};
 ghost use Rattle.table.specs.Places.{sections_told, roots_told, record_told, relocation_told, root_told};
-ghost use Rattle.table.specs.Places.{byte_told, size_told, byte_in, relocation_in, root_in};
+ghost use Rattle.table.specs.Places.{byte_told, byte_place, size_in, size_told, byte_in, Tells, byte_rows_in, relocation_in, root_in};
 
 use column::read_column;
+use graph::mix;
 use layout::{
-    BYTE_WIDTH, BYTES_ROW, END_ROW, ROOT_ROW, SECTION_ROW, SIZE_COLUMN, relocation_place,
+    BYTE_WIDTH, BYTES_ROW, END_ROW, ROOT_ROW, SECTION_ROW, SIZE_COLUMN, bytes_length,
+    relocation_place,
 };
 use model::{Record, Relocation};
 use row::{Row, read_row};
@@ -35,6 +38,18 @@ pub(crate) fn told_counts(text: &[u8]) -> Counts
         return Counts::default();
     };
     Counts { sections, roots }
+}
+
+// The digest of no bytes, from which that of any others goes on.
+pub(crate) const NO_BYTES: u64 = 14695981039346656037;
+
+// Where the columns of byte `i` of a section are, from its row on.
+fn byte_place(i: u16) -> usize
+    ensures { result ≡ byte_place i }
+{
+    let row = usize::from(i / 16);
+    let column = usize::from(i % 16);
+    SECTION_ROW + (BYTES_ROW * row + (1 + BYTE_WIDTH * column))
 }
 
 // The text from a place on, none past the end.
@@ -104,9 +119,30 @@ impl<'a> SectionRows<'a> {
         if i >= self.size()? {
             return None;
         }
-        let row = usize::from(i / 16);
-        let column = usize::from(i % 16);
-        self.byte_at(SECTION_ROW + (BYTES_ROW * row + (1 + BYTE_WIDTH * column)))
+        self.byte_at(byte_place(i))
+    }
+
+    // The digest of the section's bytes. Its size is read once, and not for each byte.
+    pub fn digest(&self) -> u64
+        ensures { (bs : List ℕ) → Tells self.now.text.now bs → result ≡ digest bs }
+    {
+        let mut digest = NO_BYTES;
+        for i in 0..self.size().unwrap_or(0) {
+            if let Some(x) = self.byte_at(byte_place(i)) {
+                digest = mix(digest, u64::from(x));
+            }
+        }
+        digest
+    }
+
+    // The rows of the section's bytes.
+    #[tactic(auto, unfolding(crate::specs::Places::byte_rows_in))]
+    pub fn byte_rows(&self) -> &'a [u8]
+        ensures { result.now ≡ byte_rows_in self.now.text.now }
+    {
+        let rows = tail(self.text, SECTION_ROW);
+        let length = bytes_length(self.size().unwrap_or(0));
+        &rows[..length.min(rows.len())]
     }
 
     fn relocation_at(&self, at: usize) -> Option<Relocation>

@@ -3,15 +3,17 @@ ghost use Rattle.std.specs.Prelude.{◌≡◌, None, drop, slice_index_or};
 ghost use Rattle.std.specs.Option.{option_map};
 ghost use Rattle.fault.specs.Refusal.{ok_unless};
 ghost use Rattle.model.specs.Graph.{Graph, empty, count_of, root_count_of};
+ghost use Rattle.graph.specs.Bytes.{bytes_of};
 ghost use Rattle.layout.specs.Reading.{fault_of};
 ghost use Rattle.layout.specs.Verdict.{Verdict};
 ghost use Rattle.table.specs.Held.{examined};
 ghost use Rattle.table.specs.Notes.{starts_in};
+ghost use Rattle.table.specs.Places.{byte_rows};
 ghost use Rattle.table.specs.Meaning.{text_held, graph_held, text_after};
 ghost use Rattle.table.specs.Answering.{valid_held};
 
 use super::Table;
-use crate::places::{Counts, SectionRows, root_in, told_counts};
+use crate::places::{Counts, NO_BYTES, SectionRows, root_in, told_counts};
 use crate::scan::{Starts, check_targets, scan};
 use fault::Fault;
 use graph::SectionGraph;
@@ -73,6 +75,17 @@ impl Table {
         let at = self.starts.of(s)?;
         Some(SectionRows::at(self.text.as_slice(), at))
     }
+
+    // The rows of the bytes of section `s`; an absent one has none.
+    #[tactic(auto, using(crate::specs::Answering::byte_rows_some))]
+    fn byte_rows(&self, s: u16) -> &[u8]
+        ensures { result.now ≡ byte_rows (bytes_of (graph_held self.now) s) }
+    {
+        let Some(rows) = self.rows(s) else {
+            return &[];
+        };
+        rows.byte_rows()
+    }
 }
 
 impl SectionGraph for Table {
@@ -92,6 +105,20 @@ impl SectionGraph for Table {
     #[tactic(auto, using(crate::specs::Answering::byte_some, crate::specs::Answering::byte_none))]
     fn byte(&self, s: u16, i: u16) -> Option<u8> {
         self.rows(s)?.byte(i)
+    }
+
+    #[tactic(auto, using(crate::specs::Answering::tells_some))]
+    fn byte_digest(&self, s: u16) -> u64 {
+        let Some(rows) = self.rows(s) else {
+            return NO_BYTES;
+        };
+        rows.digest()
+    }
+
+    // The same bytes have the same rows, and other bytes have others.
+    #[tactic(auto, using(crate::specs::Answering::rows_decide_held))]
+    fn same_bytes(&self, s: u16, t: u16) -> bool {
+        self.byte_rows(s) == self.byte_rows(t)
     }
 
     #[tactic(auto, using(crate::specs::Answering::relocation_some, crate::specs::Answering::relocation_none))]
