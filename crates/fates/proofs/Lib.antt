@@ -1,0 +1,5 @@
+pub mod Rows
+mod Scans
+pub mod Texts
+mod Refusals
+mod Examples

@@ -1,0 +1,4 @@
+pub mod Rows
+pub mod Maps
+pub mod Laws
+pub mod Examples
