@@ -1,4 +1,7 @@
 // Calls as words and lines, and what they answer as lines.
+
+#![tactic(auto)]
+
 use anyhow::Context;
 use calls::{Answer, Call, Place};
 use fault::Fault;
