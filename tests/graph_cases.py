@@ -4,29 +4,7 @@
 The expectations were written by hand, with the reason beside them, and are compared here with what graphs.py finds by the definitions.
 Run from the root of the repository: tests/graph_cases.py
 """
-from graphs import Graph, Relocation, Section, reached, rounds, settled, table, text
-
-LOW, HIGH = -(2**31), 2**31 - 1
-
-
-def to(t, **other):
-    return Relocation(("section", t), **other)
-
-
-def out(e, **other):
-    return Relocation(("outside", e), **other)
-
-
-def with_(*relocations, **other):
-    return Section(relocations=relocations, **other)
-
-
-def calls(*targets, **other):
-    return with_(*map(to, targets), **other)
-
-
-def graph(*sections, roots=()):
-    return Graph(sections, tuple(roots))
+from graphs import HIGH, LOW, Section, calls, graph, holding, out, reached, rounds, settled, table, text, to
 
 
 def apart(*numbers):
@@ -67,26 +45,26 @@ CASES = {
     "two with no bytes": (graph(Section(()), Section(())), [], SHARED, 0),
     "no bytes and one byte": (graph(Section(()), Section((0,))), [], APART, 1),
     # each part of a relocation counts, seen at depth 1, unless it is what the target is
-    "the same outside name": (graph(with_(out(7)), with_(out(7))), [], SHARED, 0),
-    "outside names that differ": (graph(with_(out(7)), with_(out(8))), [], APART, 1),
-    "the lowest and the highest outside name": (graph(with_(out(0)), with_(out(65535))), [], APART, 1),
-    "a section and an outside name of one number": (graph(calls(1), PLAIN, with_(out(1))), [], apart(0, 1, 2), 1),
-    "displacements that differ": (graph(with_(out(7)), with_(out(7, displacement=-4))), [], APART, 1),
+    "the same outside name": (graph(holding(out(7)), holding(out(7))), [], SHARED, 0),
+    "outside names that differ": (graph(holding(out(7)), holding(out(8))), [], APART, 1),
+    "the lowest and the highest outside name": (graph(holding(out(0)), holding(out(65535))), [], APART, 1),
+    "a section and an outside name of one number": (graph(calls(1), PLAIN, holding(out(1))), [], apart(0, 1, 2), 1),
+    "displacements that differ": (graph(holding(out(7)), holding(out(7, displacement=-4))), [], APART, 1),
     "displacements that differ, at a section": (
-        graph(calls(2), with_(to(2, displacement=1)), PLAIN), [], apart(0, 1, 2), 1),
+        graph(calls(2), holding(to(2, displacement=1)), PLAIN), [], apart(0, 1, 2), 1),
     "the highest and the lowest displacement": (
-        graph(with_(out(7, displacement=HIGH)), with_(out(7, displacement=LOW))), [], APART, 1),
+        graph(holding(out(7, displacement=HIGH)), holding(out(7, displacement=LOW))), [], APART, 1),
     "the highest displacement at a section": (
-        graph(with_(to(0, displacement=HIGH + 65535)), with_(to(1, displacement=HIGH + 65535))), [], SHARED, 0),
+        graph(holding(to(0, displacement=HIGH + 65535)), holding(to(1, displacement=HIGH + 65535))), [], SHARED, 0),
     "displacements that differ by 2 to the 31st": (
-        graph(with_(out(7, displacement=LOW)), with_(out(7, displacement=0))), [], APART, 1),
+        graph(holding(out(7, displacement=LOW)), holding(out(7, displacement=0))), [], APART, 1),
     "offsets that differ": (
         graph(Section(TWO, (out(7, offset=0),)), Section(TWO, (out(7, offset=1),))), [], APART, 1),
-    "types that differ": (graph(with_(out(7, type=2)), with_(out(7, type=4))), [], APART, 1),
-    "types that differ in the highest bit": (graph(with_(out(7, type=2**31)), with_(out(7, type=0))), [], APART, 1),
-    "relocations in another order": (graph(with_(out(7), out(8)), with_(out(8), out(7))), [], APART, 1),
-    "one more relocation": (graph(with_(out(7)), with_(out(7), out(7))), [], APART, 1),
-    "a relocation and none": (graph(with_(out(7)), PLAIN), [], APART, 1),
+    "types that differ": (graph(holding(out(7, type=2)), holding(out(7, type=4))), [], APART, 1),
+    "types that differ in the highest bit": (graph(holding(out(7, type=2**31)), holding(out(7, type=0))), [], APART, 1),
+    "relocations in another order": (graph(holding(out(7), out(8)), holding(out(8), out(7))), [], APART, 1),
+    "one more relocation": (graph(holding(out(7)), holding(out(7), out(7))), [], APART, 1),
+    "a relocation and none": (graph(holding(out(7)), PLAIN), [], APART, 1),
     # a target counts by its own unfolding, one depth lower
     "two that call themselves": (graph(calls(0), calls(1), roots=[1]), [1], SHARED, 0),
     "one calls itself, one is called by it": (graph(calls(0), calls(0)), [], SHARED, 0),
@@ -140,12 +118,12 @@ CASES = {
     "roots not in order": (graph(PLAIN, PLAIN, PLAIN, roots=[2, 0]), [0, 2], [(0, 0), (1, 0), (2, 0)], 0),
     "a root that calls itself": (graph(calls(0), PLAIN, roots=[0]), [0], APART, 1),
     "reached by the last of three relocations": (
-        graph(with_(out(1), to(0), to(2)), PLAIN, PLAIN, roots=[0]), [0, 2], [(0, 0), (1, 1), (2, 1)], 1),
+        graph(holding(out(1), to(0), to(2)), PLAIN, PLAIN, roots=[0]), [0, 2], [(0, 0), (1, 1), (2, 1)], 1),
     "reached through a pinned section": (
         graph(calls(1), calls(2, pinned=True), PLAIN, PLAIN, roots=[0]), [0, 1, 2], [(0, 0), (2, 2), (3, 2)], 1),
-    "an outside name reaches nothing": (graph(with_(out(1)), PLAIN, roots=[0]), [0], APART, 1),
+    "an outside name reaches nothing": (graph(holding(out(1)), PLAIN, roots=[0]), [0], APART, 1),
     "reached with a displacement past the end": (
-        graph(with_(to(1, displacement=1000)), PLAIN, roots=[0]), [0, 1], APART, 1),
+        graph(holding(to(1, displacement=1000)), PLAIN, roots=[0]), [0, 1], APART, 1),
     "two ways to one section": (
         graph(calls(1, 2), calls(3), calls(3), PLAIN, PLAIN, roots=[0]),
         [0, 1, 2, 3], [(0, 0), (1, 1), (2, 1), (3, 3), (4, 3)], 1),

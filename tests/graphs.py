@@ -34,6 +34,35 @@ class Graph(NamedTuple):
         return [s for s in self.present() if not self.sections[s].pinned]
 
 
+# the lowest and the highest displacement of a relocation to an outside name
+LOW, HIGH = -(2**31), 2**31 - 1
+
+
+def to(t, **other):
+    """A relocation to a section."""
+    return Relocation(("section", t), **other)
+
+
+def out(e, **other):
+    """A relocation to an outside name."""
+    return Relocation(("outside", e), **other)
+
+
+def holding(*relocations, **other):
+    """A section with some relocations."""
+    return Section(relocations=relocations, **other)
+
+
+def calls(*targets, **other):
+    """A section that calls some sections."""
+    return holding(*map(to, targets), **other)
+
+
+def graph(*sections, roots=()):
+    """A graph of some sections, None where one is absent."""
+    return Graph(sections, tuple(roots))
+
+
 # rows as tuples of a letter and numbers
 
 

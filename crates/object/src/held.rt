@@ -3,7 +3,7 @@
 ghost use Rattle.std.specs.Prelude.{◌≡◌, ◌+◌, ◌<◌, ◌≤◌, true, ◌&&◌, [], if◌then◌else◌, map, length, take, drop, replicate, Some, None, MatchOption, IfOk};
 ghost use Rattle.elf.specs.Layout.{sections, section, plain, entry_at};
 ghost use Rattle.model.specs.declared.Setting.TheVariants.{Foldable, Pinned};
-ghost use Rattle.model.specs.Graph.{empty, section_of, record_of, byte_of, relocation_of};
+ghost use Rattle.model.specs.Graph.{empty, section_of, record_of, relocation_of};
 ghost use Rattle.checklist.specs.Checks.{answer};
 ghost use Rattle.checklist.specs.Laws.{Verdict};
 ghost use Rattle.rules.specs.Rules.{part, symbol};

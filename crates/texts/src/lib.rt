@@ -55,4 +55,44 @@ mod tests {
         assert!(rt; row.as_slice() == b"F          10           0           3\n".as_slice());
         Ok(())
     }
+
+    #[test]
+    fn a_row_tells_the_place(rt: HostRuntime) -> Result<(), AllocError> {
+        let short = Fault::new(Kind::Short, 4660, Layer::Field);
+        let row = fault_text(rt.alloc(), &short)?;
+        assert!(rt; row.as_slice() == b"F           1        4660           1\n".as_slice());
+        Ok(())
+    }
+
+    // No contract says what a refusal prints as.
+    #[test]
+    fn each_kind_has_its_sentence(rt: HostRuntime) -> Result<(), AllocError> {
+        let sentences = [
+            (Kind::Short, "a part runs past the end"),
+            (Kind::Foreign, "not a file of the kind that is read"),
+            (Kind::Oversize, "a count or a length is above its limit"),
+            (Kind::Dangling, "a number names no section or symbol"),
+            (Kind::Misshapen, "a field has a value that is not allowed"),
+            (Kind::BadRow, "a row does not form, or does not belong here"),
+            (Kind::Closed, "the pile was swept or folded"),
+            (Kind::NoSection, "no such section"),
+            (Kind::Bound, "the name was bound before"),
+            (Kind::Full, "no room for another"),
+            (Kind::Small, "the buffer is too short"),
+        ];
+        for (kind, sentence) in sentences {
+            assert_eq!(rt; format!(in rt.alloc(); "{kind}")?.as_str(), sentence);
+        }
+        Ok(())
+    }
+
+    #[test]
+    fn a_refusal_prints(rt: HostRuntime) -> Result<(), AllocError> {
+        let bound = Fault::new(Kind::Bound, 7, Layer::Pile);
+        assert_eq!(rt;
+            format!(in rt.alloc(); "{bound}")?.as_str(),
+            "refused with 9 at 7, layer 3: the name was bound before"
+        );
+        Ok(())
+    }
 }

@@ -1,0 +1,173 @@
+// Calls as words and lines, and what they answer as lines.
+
+#![tactic(auto)]
+
+use anyhow::Context;
+use calls::{Answer, Call, Place};
+use fault::Fault;
+use std::fmt;
+
+// A number after an option.
+pub fn number(word: &str) -> anyhow::Result<u16> {
+    word.parse::<u16>()
+        .context(format_args!("{word} is no number from 0 to 65535"))
+}
+
+// A bind as an option has it, NAME=SECTION.
+pub fn bind(word: &str) -> anyhow::Result<Call> {
+    let (name, section) = word.split_once('=').context(format_args!(
+        "{word} is no bind, which is written NAME=SECTION"
+    ))?;
+    Ok(Call::Bind {
+        name: number(name)?,
+        section: number(section)?,
+    })
+}
+
+// What a line of `run` asks for.
+#[derive(Clone, Copy)]
+pub enum Order {
+    Call(Call),
+    Place(u16),
+}
+
+// A line as what it asks for, if it is an order.
+pub fn read_order(line: &str) -> Option<Order> {
+    let (verb, rest) = line.split_once(' ').unwrap_or((line, ""));
+    let call = match verb {
+        "bind" => {
+            let (name, section) = rest.split_once(' ')?;
+            Call::Bind {
+                name: name.parse().ok()?,
+                section: section.parse().ok()?,
+            }
+        }
+        "pin" => Call::Pin {
+            section: rest.parse().ok()?,
+        },
+        "root" => Call::Root {
+            section: rest.parse().ok()?,
+        },
+        "sweep" if rest.is_empty() => Call::Sweep,
+        "fold" if rest.is_empty() => Call::Fold,
+        "place" => return Some(Order::Place(rest.parse().ok()?)),
+        _ => return None,
+    };
+    Some(Order::Call(call))
+}
+
+// A refusal in a line.
+#[derive(Clone, Copy)]
+struct Refused(Fault);
+
+impl fmt::Display for Refused {
+    fn fmt<W: fmt::Write>(&self, f: &mut fmt::Formatter<W>) -> fmt::Result {
+        let fault = self.0;
+        let (kind, layer) = (u8::from(fault.kind), u8::from(fault.layer));
+        write!(f, "refused {kind} {} {layer}", fault.place)
+    }
+}
+
+// A call and its answer; it prints as a line.
+#[derive(Clone, Copy)]
+pub struct Done {
+    pub call: Call,
+    pub answer: Answer,
+}
+
+impl fmt::Display for Done {
+    fn fmt<W: fmt::Write>(&self, f: &mut fmt::Formatter<W>) -> fmt::Result {
+        match self.call {
+            Call::Bind { name, section } => write!(f, "bind {name} {section} ")?,
+            Call::Pin { section } => write!(f, "pin {section} ")?,
+            Call::Root { section } => write!(f, "root {section} ")?,
+            Call::Sweep => write!(f, "sweep ")?,
+            Call::Fold => write!(f, "fold ")?,
+        }
+        match self.answer {
+            Answer::Accepted => write!(f, "ok"),
+            Answer::Refused(fault) => write!(f, "{}", Refused(fault)),
+            Answer::Dropped { present, dropped } => write!(f, "{present} {dropped}"),
+            Answer::Merged {
+                present,
+                merged,
+                rounds,
+            } => write!(f, "{present} {merged} {rounds}"),
+        }
+    }
+}
+
+// A section and where it is found; it prints as a line.
+#[derive(Clone, Copy)]
+pub struct Found {
+    pub section: u16,
+    pub place: Result<Place, Fault>,
+}
+
+impl fmt::Display for Found {
+    fn fmt<W: fmt::Write>(&self, f: &mut fmt::Formatter<W>) -> fmt::Result {
+        write!(f, "place {} ", self.section)?;
+        match self.place {
+            Ok(Place::At(number)) => write!(f, "{number}"),
+            Ok(Place::Swept) => write!(f, "swept"),
+            Ok(Place::Absent) => write!(f, "absent"),
+            Err(fault) => write!(f, "{}", Refused(fault)),
+        }
+    }
+}
+
+#[cfg(test)]
+mod tests {
+    use super::*;
+    use fault::{Kind, Layer};
+
+    #[test]
+    fn orders_are_read(rt: HostRuntime) {
+        assert!(rt;
+            matches!(
+                read_order("bind 5 3"),
+                Some(Order::Call(Call::Bind {
+                    name: 5,
+                    section: 3
+                }))
+            )
+        );
+        assert!(rt; matches!(read_order("sweep"), Some(Order::Call(Call::Sweep))));
+        assert!(rt; matches!(read_order("place 7"), Some(Order::Place(7))));
+        assert!(rt; read_order("bind 5").is_none());
+        assert!(rt; read_order("pin 65536").is_none());
+        assert!(rt; read_order("sweep 1").is_none());
+        assert!(rt; read_order("").is_none());
+    }
+
+    #[test]
+    fn answers_print(rt: HostRuntime) -> anyhow::Result<()> {
+        let full = Fault::new(Kind::Full, 0, Layer::Pile);
+        let refused = Done {
+            call: Call::Root { section: 4 },
+            answer: Answer::Refused(full),
+        };
+        assert_eq!(rt;
+            format!(in rt.alloc(); "{refused}")?.as_str(),
+            "root 4 refused 10 0 3"
+        );
+        let folded = Done {
+            call: Call::Fold,
+            answer: Answer::Merged {
+                present: 8,
+                merged: 2,
+                rounds: 1,
+            },
+        };
+        assert_eq!(rt; format!(in rt.alloc(); "{folded}")?.as_str(), "fold 8 2 1");
+        let found = Found {
+            section: 3,
+            place: Ok(Place::Swept),
+        };
+        assert_eq!(rt;
+            format!(in rt.alloc(); "{found}")?.as_str(),
+            "place 3 swept"
+        );
+        Ok(())
+    }
+}
