@@ -1,27 +1,9 @@
-// What is read, an object or a table, and what is said of any section graph.
+// What is said of a section graph.
 use graph::{SectionGraph, relocations_told};
 use std::alloc::{AllocError, Global};
 use std::collections::BTreeSet;
-use std::io::Read;
-use std::{fmt, fs, io};
+use std::fmt;
 use summary::{Summary, summarize};
-
-// The bytes of a file, or of standard input.
-pub fn load(rt: &HostRuntime, file: &Option<String>) -> io::Result<Vec<u8>> {
-    match file {
-        Some(path) => fs::read(rt, path.as_str()),
-        None => {
-            let mut bytes = Vec::new(rt.alloc());
-            rt.stdin().read_to_end(&mut bytes)?;
-            Ok(bytes)
-        }
-    }
-}
-
-// Objects begin with this byte, and no table does.
-pub fn is_object(bytes: &[u8]) -> bool {
-    bytes.first() == Some(&0x7f)
-}
 
 // How many outside names are used.
 fn outside_names<G: SectionGraph>(heap: Global, graph: &G) -> Result<usize, AllocError> {

@@ -1,20 +1,25 @@
 // `check`: what a file holds, and that a table is written again as it was.
-use crate::graphs::{describe, is_object, load};
-use crate::input::{read_object, read_table};
-use crate::options::Options;
 use anyhow::ensure;
+use files::description::describe;
+use files::input::{is_object, load, read_object, read_table};
 use graph::SectionGraph;
+use options::Options;
+use std::rt::Files;
 use table::Table;
 use table_writer::table_length;
 use texts::table_text;
 
-fn tell<G: SectionGraph>(rt: &HostRuntime, kind: &str, graph: &G) -> anyhow::Result<()> {
+fn tell<G: SectionGraph>(
+    rt: &(impl Print + AllocGlobal),
+    kind: &str,
+    graph: &G,
+) -> anyhow::Result<()> {
     let description = describe(rt.alloc(), graph)?;
     println!(rt; "{kind}\n{description}")?;
     Ok(())
 }
 
-fn compare(rt: &HostRuntime, table: &Table) -> anyhow::Result<()> {
+fn compare(rt: &(impl Print + AllocGlobal), table: &Table) -> anyhow::Result<()> {
     let again = table_text(rt.alloc(), table)?;
     ensure!(
         again.as_slice() == table.text(),
@@ -24,7 +29,10 @@ fn compare(rt: &HostRuntime, table: &Table) -> anyhow::Result<()> {
     Ok(())
 }
 
-pub fn check(rt: &HostRuntime, options: Options) -> anyhow::Result<()> {
+pub fn check(
+    rt: &(impl Files + Input + Print + Eprint + AllocGlobal),
+    options: Options,
+) -> anyhow::Result<()> {
     ensure!(
         options.output.is_none(),
         "check writes no file: -o is an option of table"

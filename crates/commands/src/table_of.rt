@@ -1,11 +1,14 @@
 // `table`: the section table of a file as it was read, with nothing swept or folded.
-use crate::graphs::{is_object, load};
-use crate::input::{read_object, read_table};
-use crate::options::Options;
-use crate::output::write_out;
 use anyhow::ensure;
+use files::input::{is_object, load, read_object, read_table};
+use files::output::write_out;
+use options::Options;
+use std::rt::Files;
 
-pub fn table(rt: &HostRuntime, options: Options) -> anyhow::Result<()> {
+pub fn table(
+    rt: &(impl Files + Input + Print + Eprint + AllocGlobal),
+    options: Options,
+) -> anyhow::Result<()> {
     ensure!(
         options.map.is_none(),
         "table writes no map: -m is an option of fold and run"

@@ -1,16 +1,21 @@
 // What goes out: a section table to where it is wanted, and lines for people to where no table goes.
-use crate::graphs::describe;
-use crate::options::Options;
+use crate::description::describe;
 use crate::refusal::or_row;
 use foldmap::{map_length, write_map};
 use graph::SectionGraph;
+use options::Options;
 use pile::Pile;
 use std::io::Write;
+use std::rt::Files;
 use std::{fmt, fs, io};
 use texts::table_text;
 
 // A line for people: on standard output where the table goes to a file, and else on standard error.
-pub fn say<D: fmt::Display + Drop>(rt: &HostRuntime, options: &Options, line: D) -> io::Result<()> {
+pub fn say<D: fmt::Display + Drop>(
+    rt: &(impl Print + Eprint),
+    options: &Options,
+    line: D,
+) -> io::Result<()> {
     if options.output.is_some() {
         println!(rt; "{line}")
     } else {
@@ -19,17 +24,16 @@ pub fn say<D: fmt::Display + Drop>(rt: &HostRuntime, options: &Options, line: D)
 }
 
 // The text of a table, to the file that was named or to standard output.
-pub fn send(rt: &HostRuntime, options: &Options, text: &[u8]) -> anyhow::Result<()> {
+pub fn send(rt: &(impl Files + Print), options: &Options, text: &[u8]) -> io::Result<()> {
     match &options.output {
-        Some(path) => fs::write(rt, path.as_str(), text)?,
-        None => rt.stdout().write_all(text)?,
+        Some(path) => fs::write(rt, path.as_str(), text),
+        None => io::writer(rt).write_all(text),
     }
-    Ok(())
 }
 
 // The fold map of a pile, to the file that was named, if one was.
 pub fn write_map_out<G: SectionGraph>(
-    rt: &HostRuntime,
+    rt: &(impl Files + Print + AllocGlobal),
     pile: &Pile<G>,
     options: &Options,
 ) -> anyhow::Result<()> {
@@ -43,7 +47,7 @@ pub fn write_map_out<G: SectionGraph>(
 
 // The table of a section graph goes out, and what it holds is said.
 pub fn write_out<G: SectionGraph>(
-    rt: &HostRuntime,
+    rt: &(impl Files + Print + Eprint + AllocGlobal),
     graph: &G,
     options: &Options,
 ) -> anyhow::Result<()> {

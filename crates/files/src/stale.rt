@@ -29,7 +29,7 @@ fn is_stale(file: &[u8]) -> bool {
     link.is_some() && link != symbols
 }
 
-pub fn warn(rt: &HostRuntime, file: &[u8]) -> io::Result<()> {
+pub fn warn(rt: &impl Eprint, file: &[u8]) -> io::Result<()> {
     if is_stale(file) {
         eprintln!(rt;
             "yilmacrab: warning: the address-significance list is not linked to the symbol table and may be stale"

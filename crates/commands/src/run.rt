@@ -1,19 +1,19 @@
 // `run`: calls from standard input, a line each, on one pile over a file.
-use crate::call_lines::{Done, Found, Order, read_order};
-use crate::graphs::{is_object, load};
-use crate::input::{read_object, read_table};
-use crate::options::Options;
-use crate::output::write_map_out;
 use anyhow::{Context, ensure};
+use call_lines::{Done, Found, Order, read_order};
+use files::input::{is_object, load, read_object, read_table};
+use files::output::write_map_out;
 use graph::SectionGraph;
+use options::Options;
 use pile::Pile;
 use std::fs;
 use std::io::Read;
+use std::rt::Files;
 use texts::table_text;
 
 // Does what a line asks for, and prints what comes of it.
 fn perform<G: SectionGraph + Drop>(
-    rt: &HostRuntime,
+    rt: &impl Print,
     pile: &mut Pile<G>,
     wanted: Order,
 ) -> anyhow::Result<()> {
@@ -31,7 +31,7 @@ fn perform<G: SectionGraph + Drop>(
 }
 
 fn run_graph<G: SectionGraph + Drop>(
-    rt: &HostRuntime,
+    rt: &(impl Files + Print + AllocGlobal),
     below: G,
     calls: &str,
     options: &Options,
@@ -47,14 +47,17 @@ fn run_graph<G: SectionGraph + Drop>(
     write_map_out(rt, &pile, options)
 }
 
-pub fn run(rt: &HostRuntime, options: Options) -> anyhow::Result<()> {
+pub fn run(
+    rt: &(impl Files + Input + Print + Eprint + AllocGlobal),
+    options: Options,
+) -> anyhow::Result<()> {
     ensure!(
         options.file.is_some(),
         "run needs a file, since the calls come on standard input"
     );
     let bytes = load(rt, &options.file)?;
     let mut calls = String::new(rt.alloc());
-    rt.stdin().read_to_string(&mut calls)?;
+    rt.reader().read_to_string(&mut calls)?;
     if is_object(bytes.as_slice()) {
         run_graph(rt, read_object(rt, bytes)?, calls.as_str(), &options)
     } else {
