@@ -23,6 +23,9 @@ import linkers
 PROGRAM = "crates/yilmacrab/out/yilmacrab"
 LIMIT = 1000
 
+# What is told of a program's time less that of its start: less is lost in the start's own ups and downs.
+LEAST = 0.5
+
 # How an input is written and made, large and small; the command; what the times should go by, and so their ratio; and how many sections
 # of the large input are merged, in how many rounds.
 Growth = namedtuple("Growth", "name write make large small doing expected merged rounds")
@@ -70,7 +73,7 @@ def took(words, typed):
 def net(jobs, runs):
     """The least time of each job, less that of its program's start, in milliseconds."""
     turns = [[(took(job.words, job.typed), took(job.idle, job.typed)) for job in jobs] for _ in range(runs)]
-    return [max(min(t for t, _ in column) - min(t for _, t in column), 0.1) for column in zip(*turns)]
+    return [max(min(t for t, _ in column) - min(t for _, t in column), LEAST) for column in zip(*turns)]
 
 
 def check(path, merged, rounds):
@@ -93,6 +96,10 @@ def one(number):
     return f"{number:.1f}"
 
 
+def milli(t):
+    return one(t) if t > LEAST else f"<{LEAST}"
+
+
 def growth(work, folder, tiny, runs):
     """Prints the line of a workload, and answers the time of the large input."""
     large, small = os.path.join(folder, "large"), os.path.join(folder, "small")
@@ -100,7 +107,7 @@ def growth(work, folder, tiny, runs):
     if work.merged is not None:
         check(large, work.merged, work.rounds)
     times = net([ours(work.doing, path, tiny) for path in (large, small)], runs)
-    row(work.name, f"yilmacrab {work.doing}", mega(sizes[1]), one(times[1]), mega(sizes[0]), one(times[0]),
+    row(work.name, f"yilmacrab {work.doing}", mega(sizes[1]), milli(times[1]), mega(sizes[0]), milli(times[0]),
         one(sizes[0] / sizes[1]), one(times[0] / times[1]), work.expected, "")
     return times[0]
 
@@ -115,8 +122,9 @@ def linked(work, folder, tiny, runs):
     for k, (job, t) in enumerate(zip(jobs, times)):
         merged, ratios = work.merged, ""
         if k >= 2:
-            merged, ratios = linkers.merged(job.name, path, output), f"fold {times[0] / t:.1f}, run {times[1] / t:.1f}"
-        row(work.name, job.name, "", "", mega(size), one(t), "", "", f"{merged} merged", ratios)
+            merged = linkers.merged(job.name, path, output)
+            ratios = f"fold {times[0] / t:.1f}, run {times[1] / t:.1f}" if t > LEAST else "too little to tell"
+        row(work.name, job.name, "", "", mega(size), milli(t), "", "", f"{merged} merged", ratios)
 
 
 def main():

@@ -1,7 +1,7 @@
 -- Where a row is refused, no map agrees with the text so far.
-use Rattle.std.proofs.Common.{◌≡◌, ℕ, zero, suc, ◌+◌, ◌*◌, ◌/◌, ◌<◌, ◌≤◌, min, ◌⊎◌, List, length, take, drop, Some, None, Ok, Err, Option, Result, sym, refl, ap, ◌∙◌, subst, inl, inr, arith}
+use Rattle.std.proofs.Common.{◌≡◌, ℕ, zero, suc, ◌+◌, ◌*◌, ◌<◌, ◌≤◌, ◌⊎◌, List, length, take, drop, Some, None, Ok, Err, Option, Result, sym, refl, ap, ◌∙◌, inl, inr, arith}
 use Rattle.std.specs.List.{range_with_len, find}
-use Rattle.std.proofs.lemmas.List.{length-take, take-take, take_all, drop-take}
+use Rattle.std.proofs.lemmas.List.{length-take, take-take, drop-take}
 use Rattle.std.proofs.lemmas.Bool.{cases_lt}
 use Rattle.fault.specs.declared.Fault.{Fault}
 use Rattle.fault.specs.declared.Kind.TheVariants.{BadRow, Dangling}
@@ -12,7 +12,7 @@ use Rattle.fates.specs.declared.Fate.{Fate}
 use Rattle.fates.specs.declared.FoldMap.{FoldMap}
 use Rattle.fates.specs.Rows.{read_row}
 use Rattle.fates.specs.Maps.{fate_of, fates_text, bad_row_at, dangling_at, row_count, row_at, row_taken, rows_read, row_start, scanned, loose, unless_loose, checked, read_map}
-use Rattle.fates.specs.Laws.{Sound, NoneAgrees, BadRows}
+use Rattle.fates.specs.Laws.{Sound, BadRows}
 use Rattle.fates.proofs.Scans.{made, refused}
 use Rattle.fates.proofs.Texts.{back}
 

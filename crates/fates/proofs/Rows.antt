@@ -1,13 +1,11 @@
 -- Rows are read as they are written, and nothing else is read.
-use Rattle.std.proofs.Common.{◌≡◌, ℕ, zero, suc, ◌+◌, ◌^◌, ◌<◌, ◌≤◌, Bool, true, false, cond, ◌&&◌, eqb, leb, ltb, List, [], ◌∷◌, ◌++◌, length, get_or, drop, ℤ, pos, Some, Ok, Err, Result, sym, refl, ap, ◌∙◌, subst, arith}
-use Rattle.std.specs.Fmt.{signed_decimal}
-use Rattle.std.proofs.lemmas.List.{length-drop, drop_all}
+use Rattle.std.proofs.Common.{◌≡◌, ℕ, ◌+◌, ◌^◌, ◌<◌, ◌≤◌, Bool, true, false, cond, ◌&&◌, eqb, leb, ltb, List, [], ◌∷◌, ◌++◌, length, get_or, drop, pos, Some, Ok, Err, Result, sym, refl, ap, ◌∙◌, subst, arith}
+use Rattle.std.proofs.lemmas.List.{drop_all}
 use Rattle.std.proofs.lemmas.Bool.{eqb-true, eq-eqb, leb-true, le-leb, ltb-true, lt-ltb, and_parts, cond-true}
 use Rattle.column.specs.Columns.{column, columns}
-use Rattle.column.proofs.Columns.{signed_of_natural, length_columns}
+use Rattle.column.proofs.Columns.{signed_of_natural}
 use Rattle.row_part.specs.declared.Cause.{Cause}
 use Rattle.row_part.specs.declared.Cause.TheVariants.{Letter, Range}
-use Rattle.row_part.specs.Parts.{and_then, end_at}
 use Rattle.row_part.proofs.Parts.{Fits, and_then_from, and_then_only, cond_only, Held, natural_held, end_held, natural_read, end_read, next_column, columns_chained}
 use Rattle.row_writer.specs.Writing.{row_text}
 use Rattle.row_writer.proofs.Moved.{moved_length}

@@ -1,11 +1,10 @@
 -- The rows of a text are read one by one, from the part of it that is left.
-use Rattle.std.proofs.Common.{◌≡◌, ℕ, zero, suc, ◌+◌, ◌*◌, ◌/◌, ◌<◌, ◌≤◌, min, ◌⊎◌, List, [], ◌++◌, length, take, drop, set, Some, Ok, Err, Option, Result, sym, refl, ap, ◌∙◌, inl, inr, add-one, arith}
+use Rattle.std.proofs.Common.{◌≡◌, ℕ, zero, suc, ◌+◌, ◌*◌, ◌<◌, ◌≤◌, min, ◌⊎◌, List, [], ◌++◌, length, take, drop, set, Some, Ok, Err, Option, Result, sym, ap, ◌∙◌, inl, inr, add-one, arith}
 use Rattle.std.proofs.lemmas.List.{append-nil, length-append, length-drop, drop-drop, drop_at, take_at, take_all, drop_all}
 use Rattle.std.proofs.lemmas.Bool.{cases_lt}
 use Rattle.fault.specs.declared.Fault.{Fault}
 use Rattle.row_part.specs.declared.Cause.{Cause}
 use Rattle.row_part.specs.Parts.{and_then}
-use Rattle.row_part.proofs.Parts.{and_then_from}
 use Rattle.fates.specs.declared.Fate.{Fate}
 use Rattle.fates.specs.declared.FoldMap.{FoldMap}
 use Rattle.fates.specs.Rows.{read_row}

@@ -190,6 +190,11 @@ mod tests {
         FoldMap::read(text).err()
     }
 
+    // What a text tells of a section, if it is a map.
+    fn fate(text: &[u8], section: u16) -> Option<Fate> {
+        FoldMap::read(text).ok()?.fate(section)
+    }
+
     fn bad_row(place: u64) -> Option<Fault> {
         Some(Fault::new(Kind::BadRow, place, Layer::Format))
     }
@@ -202,20 +207,20 @@ mod tests {
     fn told(rt: HostRuntime) {
         let text =
             b"M           0           1           0\nM           1           2           0\nM           3           3           0\nM        1023           1        1023\n";
-        let map = FoldMap::read(text).unwrap();
-        assert_eq!(rt; map.fate(0), Some(Fate::Own));
-        assert_eq!(rt; map.fate(1), Some(Fate::Folded(0)));
-        assert_eq!(rt; map.fate(2), None);
-        assert_eq!(rt; map.fate(3), Some(Fate::Swept));
-        assert_eq!(rt; map.fate(1023), Some(Fate::Own));
-        assert_eq!(rt; map.fate(1024), None);
-        assert_eq!(rt; map.fate(65535), None);
+        assert_eq!(rt; refusal(text), None);
+        assert_eq!(rt; fate(text, 0), Some(Fate::Own));
+        assert_eq!(rt; fate(text, 1), Some(Fate::Folded(0)));
+        assert_eq!(rt; fate(text, 2), None);
+        assert_eq!(rt; fate(text, 3), Some(Fate::Swept));
+        assert_eq!(rt; fate(text, 1023), Some(Fate::Own));
+        assert_eq!(rt; fate(text, 1024), None);
+        assert_eq!(rt; fate(text, 65535), None);
     }
 
     #[test]
     fn empty(rt: HostRuntime) {
-        let map = FoldMap::read(b"").unwrap();
-        assert_eq!(rt; map.fate(0), None);
+        assert_eq!(rt; refusal(b""), None);
+        assert_eq!(rt; fate(b"", 0), None);
     }
 
     #[test]

@@ -1,23 +1,20 @@
 -- The text that is written of a pile's places is the text of the fates that they tell.
-use Rattle.std.proofs.Common.{◌≡◌, ℕ, ◌<◌, ◌≤◌, Bool, true, false, cond, eqb, ◌⊎◌, List, [], Some, None, Ok, Err, Option, Result, sym, refl, ap, ◌∙◌, subst, inl, inr, arith}
-use Rattle.std.proofs.lemmas.Option.{none-some}
-use Rattle.std.proofs.lemmas.Bool.{cases_lt, eqb-true, eqb-false, eq-eqb, cond-true}
+use Rattle.std.proofs.Common.{◌≡◌, ℕ, ◌<◌, ◌≤◌, Bool, true, false, cond, eqb, ◌⊎◌, List, Some, None, Ok, Err, Option, Result, sym, refl, ap, ◌∙◌, inl, inr, arith}
+use Rattle.std.proofs.lemmas.Bool.{cases_lt, eqb-true, eqb-false, eq-eqb}
 use Rattle.fault.specs.declared.Fault.{Fault}
 use Rattle.model.specs.Graph.{Graph, count_of}
 use Rattle.calls.specs.declared.Place.{Place}
 use Rattle.calls.specs.declared.Place.TheVariants.{At, Absent, Swept as Nowhere}
 use Rattle.steps.specs.Below.{table}
 use Rattle.steps.proofs.Below.{table_at, table_length, table_past}
-use Rattle.pieces.specs.Writes.{pieces}
 use Rattle.runs.specs.State.{State, place_of, after}
-use Rattle.runs.specs.Promise.{Placed}
 use Rattle.runs.specs.Laws.{Tells}
 use Rattle.runs.proofs.Telling.{pile_tells}
 use Rattle.row_writer.specs.declared.Outcome.TheVariants.{Own as Itself, Other as Another}
 use Rattle.row_writer.specs.Writing.{moved_row}
 use Rattle.foldmap.specs.Map.{told_of, row_of, map_text}
 use Rattle.fates.specs.declared.Fate.{Fate}
-use Rattle.fates.specs.declared.Fate.TheVariants.{Own, Folded, Swept}
+use Rattle.fates.specs.declared.Fate.TheVariants.{Own, Folded}
 use Rattle.fates.specs.Rows.{fate_row}
 use Rattle.fates.specs.Maps.{fate_of, fates_text, read_map}
 use Rattle.fates.specs.Laws.{Sound}

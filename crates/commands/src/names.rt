@@ -1,0 +1,31 @@
+// Names of ELF sections, as lines for people have them.
+use section_names::section_name;
+use std::fmt;
+
+// How much of a name is shown.
+const SHOWN: usize = 200;
+
+// The name of a section, from a file that nobody vouches for: what is no plain character of it is escaped.
+#[derive(Clone, Copy)]
+pub struct Name<'a>(&'a [u8]);
+
+impl<'a> Name<'a> {
+    // The name of a section of an object, if it has one.
+    pub fn of(object: &'a [u8], section: u16) -> Option<Name<'a>> {
+        section_name(object, section)
+            .filter(|name| !name.is_empty())
+            .map(Name)
+    }
+}
+
+impl fmt::Display for Name<'_> {
+    fn fmt<W: fmt::Write>(&self, f: &mut fmt::Formatter<W>) -> fmt::Result {
+        for x in self.0.iter().take(SHOWN) {
+            write!(f, "{}", x.escape_ascii())?;
+        }
+        if self.0.len() > SHOWN {
+            write!(f, "..")?;
+        }
+        Ok(())
+    }
+}
