@@ -1,5 +1,5 @@
 #!/usr/bin/env python3
-"""Writes what the programs fold_case, run_case and refused_case are given, and what they have to print.
+"""Writes what the programs fold_case, run_case, merged_case and refused_case are given, and what they have to print.
 
 The expectations come from the small pile below, which was written from docs/PILE.md, docs/TABLE.md and docs/MAP.md and shares no
 code with the library. Run from the root of the repository: tests/program_cases.py
@@ -257,6 +257,24 @@ def name_of(s):
     return escaped(NAMES[s]) if s < len(NAMES) and NAMES[s] else None
 
 
+def named(s):
+    return f"{s} ({name_of(s)})" if name_of(s) else str(s)
+
+
+def merged(places):
+    """What merged prints of a map."""
+    out, kept = "", [s for s, p in places.items() if p == s]
+    for k in kept:
+        folded = [s for s, p in places.items() if p == k and s != k]
+        if folded:
+            out += f"merged         {named(k)} <- {', '.join(map(named, folded))}\n"
+    swept = [s for s, p in places.items() if p == "swept"]
+    if swept:
+        out += f"swept          {', '.join(map(named, swept))}\n"
+    gone = len(places) - len(kept) - len(swept)
+    return out + f"sections       {len(kept)} kept, {gone} merged, {len(swept)} swept\n"
+
+
 def write(program, **files):
     for name, data in files.items():
         path = os.path.join("crates", program, *name.split("__"))
@@ -292,6 +310,14 @@ def run_case():
     ))
 
 
+def merged_case():
+    data, _ = an_object()
+    # no fold of that object: it tells of more than one group, and of sections that the object does not have
+    places = {1: 1, 2: 2, 3: 1, 4: "swept", 5: 1, 6: 2, 10: 10, 11: 11, 12: "swept", 1023: 11}
+    text = "".join(row("M", s, 3, 0) if p == "swept" else row("M", s, 1 if p == s else 2, p) for s, p in places.items())
+    write("merged_case", data__map=text, data__object=data, stdout=merged(places), args=words("merged map -n object"))
+
+
 def refused_case():
     data, graph = an_object()
     calls = ["pin 1", "root 7", "pin 4", "bind 3 5", "root 6", "pin 9", "pin 2"]
@@ -304,4 +330,5 @@ def refused_case():
 
 fold_case()
 run_case()
+merged_case()
 refused_case()

@@ -5,12 +5,13 @@
 
 mod check;
 mod fold;
+mod merged;
 mod names;
 mod run;
 mod table_of;
 
 use anyhow::bail;
-use options::{read_options, read_wanted};
+use options::{read_options, read_shown, read_wanted};
 use std::env;
 use std::env::{Args, Env};
 use std::process::ExitCode;
@@ -21,6 +22,7 @@ const HELP: &str = "usage: yilmacrab check [FILE]
        yilmacrab fold [FILE] [--bind NAME=SECTION].. [--pin SECTION]..
                  [--root SECTION].. [-o TABLE] [-m MAP]
        yilmacrab run FILE [-o TABLE] [-m MAP]
+       yilmacrab merged [MAP] [-n OBJECT]
 
   check   read an ELF64 object or a section table and say what it holds; a table
           is written again and compared
@@ -34,6 +36,9 @@ const HELP: &str = "usage: yilmacrab check [FILE]
           and layer, the sections present and dropped, the sections present and
           merged and the rounds, or a place; a line that is no call ends it, with
           nothing written
+  merged  read a fold map and print which sections were made into one, a line for
+          each: the section that was kept, and those that were folded into it;
+          then those that were swept, and how many were kept, merged and swept
   --help  print this
 
 A file is an object if its first byte is 7F hexadecimal, else a table; without
@@ -41,10 +46,10 @@ FILE, standard input is read. A table goes to standard output, or to the file
 after -o; what is said of it then goes to standard output too, else to standard
 error. A fold map, which tells where each section went, goes to the file after
 -m. Of run, a table goes to the file after -o alone. Of an object, fold says the
-names of the sections that it is called with. What is refused is told by an F row
-on standard output (the refusal's number, its place and its layer) and a sentence
-on standard error. The status is 0, or 1 where something was refused or could not
-be done.";
+names of the sections that it is called with; merged says those of the object
+after -n. What is refused is told by an F row on standard output (the refusal's
+number, its place and its layer) and a sentence on standard error. The status is
+0, or 1 where something was refused or could not be done.";
 
 fn help(rt: &impl Print) -> anyhow::Result<()> {
     println!(rt; "{HELP}")?;
@@ -62,6 +67,7 @@ fn perform(
         "table" => table_of::table(rt, read_options(words)?),
         "fold" => fold::fold(rt, read_wanted(rt.alloc(), words)?),
         "run" => run::run(rt, read_options(words)?),
+        "merged" => merged::merged(rt, read_shown(words)?),
         "--help" | "-h" | "help" => help(rt),
         _ => bail!("no command is called {command}; yilmacrab --help lists them"),
     }

@@ -29,3 +29,25 @@ impl fmt::Display for Name<'_> {
         Ok(())
     }
 }
+
+// Sections by their numbers, each with its name where it has one.
+#[derive(Clone, Copy)]
+pub struct Named<'a> {
+    pub object: &'a [u8],
+    pub sections: &'a [u16],
+}
+
+impl fmt::Display for Named<'_> {
+    fn fmt<W: fmt::Write>(&self, f: &mut fmt::Formatter<W>) -> fmt::Result {
+        for (i, section) in self.sections.iter().enumerate() {
+            if i > 0 {
+                write!(f, ", ")?;
+            }
+            write!(f, "{section}")?;
+            if let Some(name) = Name::of(self.object, *section) {
+                write!(f, " ({name})")?;
+            }
+        }
+        Ok(())
+    }
+}

@@ -57,6 +57,7 @@ impl Gather for Options {
         match word.as_str() {
             "-o" => self.output = Some(value(words, "-o")?),
             "-m" => self.map = Some(value(words, "-m")?),
+            "-n" => bail!("-n is an option of merged"),
             _ => self.file = file(word, &self.file)?,
         }
         Ok(())
@@ -98,6 +99,30 @@ pub fn read_wanted(heap: Global, words: Args) -> anyhow::Result<Wanted> {
         calls: Vec::new(heap),
     };
     take_all(nothing, words, 4096)
+}
+
+// What `merged` is to show.
+#[derive(Drop, Default)]
+pub struct Shown {
+    // the fold map; without one, standard input
+    pub map: Option<String>,
+    // the object whose names of sections are told, if they are wanted
+    pub object: Option<String>,
+}
+
+impl Gather for Shown {
+    fn take(&mut self, word: String, words: &mut Args) -> anyhow::Result<()> {
+        match word.as_str() {
+            "-n" => self.object = Some(value(words, "-n")?),
+            "-o" | "-m" => bail!("merged writes no file: {word} is an option of fold and run"),
+            _ => self.map = file(word, &self.map)?,
+        }
+        Ok(())
+    }
+}
+
+pub fn read_shown(words: Args) -> anyhow::Result<Shown> {
+    take_all(Shown::default(), words, 64)
 }
 
 #[cfg(test)]
@@ -150,6 +175,7 @@ mod tests {
             ("-x", "no option is called -x; yilmacrab --help lists them"),
             ("a b", "only one file can be read"),
             ("a -o", "something has to follow -o"),
+            ("-n a.o", "-n is an option of merged"),
         ] {
             let read = read_options(words(heap, line)?);
             assert_eq!(rt; said(heap, read)?.as_str(), want);
@@ -162,6 +188,11 @@ mod tests {
             let read = read_wanted(heap, words(heap, line)?);
             assert_eq!(rt; said(heap, read)?.as_str(), want);
         }
+        let read = read_shown(words(heap, "-o m")?);
+        assert_eq!(rt;
+            said(heap, read)?.as_str(),
+            "merged writes no file: -o is an option of fold and run"
+        );
         Ok(())
     }
 }
