@@ -1,10 +1,14 @@
 #!/usr/bin/env python3
-"""Writes what the programs fold_case, run_case, merged_case and refused_case are given, and what they have to print.
+"""Writes what the programs whose names end in _case are given, and what they have to print.
 
 The expectations come from the small pile below, which was written from docs/PILE.md, docs/TABLE.md and docs/MAP.md and shares no
-code with the library. Run from the root of the repository: tests/program_cases.py
+code with the library, and, of objects with relocations, from tools/object_reference.py, an independent reader of objects.
+Run from the root of the repository: tests/program_cases.py
 """
-import os, struct
+import os, struct, sys
+
+sys.path.append("tools")
+import object_reference
 
 
 def row(letter, *numbers, width=12):
@@ -148,8 +152,8 @@ class Pile:
         verb, *numbers = line.split()
         return f"{line} {getattr(self, verb)(*map(int, numbers))}\n"
 
-    def folded(self, calls, names=lambda s: None):
-        """What fold prints where the table and the map go to standard output too, and whether it was done."""
+    def folded(self, calls, names=lambda s: None, mapped=True):
+        """What fold prints where the table and the map, if it is wanted, go to standard output too, and whether it was done."""
         out = self.description()
         for call in calls:
             said = self.line(call)
@@ -161,8 +165,10 @@ class Pile:
         out += f"swept          {dropped} sections dropped, {present} present\n"
         present, merged, rounds = self.fold().split()
         out += f"folded         {merged} sections merged, {present} present, {rounds} rounds\n"
-        out += f"table          {len(self.table())} bytes\n"
-        return out + self.table() + self.map(), True
+        out += self.table() + f"table          {len(self.table())} bytes\n"
+        if mapped:
+            out += self.map() + f"map            {len(self.map())} bytes\n"
+        return out, True
 
 
 def call(target, offset=0, kind=4, displacement=-4):
@@ -261,6 +267,59 @@ def named(s):
     return f"{s} ({name_of(s)})" if name_of(s) else str(s)
 
 
+def elf(sections):
+    """An object of some sections, each a name, a type, flags, a link, an info, an alignment, an entry size and bytes, or the length of bytes that are all 0."""
+    out, headers, strings = bytearray(64), bytes(64), b"\0"
+    sections = [*sections, (".shstrtab", 3, 0, 0, 0, 1, 0, None)]
+    starts = []
+    for name, *_ in sections:
+        starts.append(len(strings))
+        strings += name.encode() + b"\0"
+    for start, (_, kind, flags, link, info, alignment, entry, data) in zip(starts, sections):
+        data = strings if data is None else data
+        size = data if isinstance(data, int) else len(data)
+        headers += struct.pack("<IIQQQQIIQQ", start, kind, flags, 0, len(out), size, link, info, alignment, entry)
+        out += b"" if isinstance(data, int) else data
+    struct.pack_into("<7s", out, 0, b"\x7fELF\x02\x01\x01")
+    count = len(headers) // 64
+    struct.pack_into("<HHIQQQIHHHHHH", out, 16, 1, 62, 1, 0, 0, len(out), 0, 64, 0, 0, 64, count, count - 1)
+    return bytes(out + headers)
+
+
+def linked_object():
+    """Section 1 calls an outside name as 2 calls 3, so that a bind makes 1 and 2 alike. A list says whose address counts."""
+    # outside, then the starts of sections 3, 2, 1, 7 and 5, and a place in 5
+    symbols = [(0, 0), (0, 0), (3, 0), (2, 0), (1, 0), (7, 0), (5, 0), (5, 12)]
+    symbols = b"".join(struct.pack("<IBBHQQ", 0, 0, 0, s, value, 0) for s, value in symbols)
+    rela = lambda *entries: b"".join(struct.pack("<QQq", at, y << 32 | kind, addend) for at, kind, y, addend in entries)
+    data = elf([
+        (".text.gross", 1, 0x206, 0, 0, 0, 0, bytes([232, 0, 0, 0, 0])),
+        (".text.net", 1, 6, 0, 0, 1, 0, bytes([232, 0, 0, 0, 0])),
+        (".text.tare", 1, 6, 0, 0, 16, 0, bytes([195])),
+        (".data.scales", 1, 3, 0, 0, 8, 0, bytes(range(40, 65))),
+        (".bss", 8, 3, 0, 0, 32, 0, 20),
+        (".init_array", 14, 3, 0, 0, 8, 0, bytes(16)),
+        (".text.seal", 1, 6, 0, 0, 1, 0, bytes([195])),
+        (".text.lost\t", 1, 6, 0, 0, 1, 0, bytes([195])),
+        (".rela.text.gross", 4, 0, 13, 1, 8, 24, rela((1, 4, 1, -4))),
+        (".rela.text.net", 4, 0, 13, 2, 8, 24, rela((1, 4, 2, -4))),
+        (".rela.data.scales", 4, 0, 13, 4, 8, 24, rela((8, 1, 7, 2**31 - 1), (16, 1, 5, -(2**31)))),
+        (".rela.init_array", 4, 0, 13, 6, 8, 24, rela((0, 1, 4, 0), (8, 1, 3, 0))),
+        (".symtab", 2, 0, 0, 0, 8, 24, symbols),
+        (".llvm_addrsig", 0x6FFF4C03, 0x80000000, 13, 0, 1, 0, bytes([5, 0x81, 0])),
+    ])
+    count, sections, roots = object_reference.read(data)
+    made = {s: Section(x, links, flags, alignment, pinned) for s, (flags, alignment, x, pinned, links) in sections.items()}
+    graph = Pile(count, made, roots)
+    assert graph.table() == object_reference.text((count, sections, roots))
+
+    def names(s):
+        name = object_reference.section_name(data, s)
+        return escaped(name) if name else None
+
+    return data, graph, names
+
+
 def merged(places):
     """What merged prints of a map."""
     out, kept = "", [s for s, p in places.items() if p == s]
@@ -328,7 +387,44 @@ def refused_case():
     ))
 
 
+def object_case():
+    data, graph, names = linked_object()
+    calls = ["root 4", "bind 1 3", "pin 8"]
+    printed, done = graph.folded(calls, names, mapped=False)
+    assert done and graph.went == {2: 1, 8: "swept"}
+    write("object_case", data__object=data, stdout=printed, args=words(
+        "fold object --root 4 --bind 1=3 --pin 8 -o /dev/stdout"
+    ))
+
+
+def check_case():
+    data, graph, _ = linked_object()
+    printed = f"an ELF64 object\n{graph.description()}its table would have {len(graph.table())} bytes\n"
+    write("check_case", data__object=data, stdout=printed, args=words("check object"))
+
+
+def table_case():
+    data, graph, _ = linked_object()
+    write("table_case", data__object=data, stdout=graph.table() + graph.description(), args=words(
+        "table object -o /dev/stdout"
+    ))
+
+
+def run_refused_case():
+    """The third line is no text. What comes before it is done and printed, and no table or map is written."""
+    data, graph, _ = linked_object()
+    lines = [b"bind 1 3", b"place 9", b"pin \xff1", b"fold"]
+    printed = "".join(graph.line(x.decode()) for x in lines[:2])
+    write("run_refused_case", data__object=data, stdin=b"".join(x + b"\n" for x in lines), stdout=printed, status="1\n", args=words(
+        "run object -o /dev/stdout -m /dev/stdout"
+    ))
+
+
 fold_case()
 run_case()
 merged_case()
 refused_case()
+object_case()
+check_case()
+table_case()
+run_refused_case()

@@ -1,5 +1,5 @@
 // `fold`: some calls on a pile over a file, then a sweep and a fold, and the table of what is left.
-use crate::names::Name;
+use crate::names::name_of;
 use call_lines::Done;
 use calls::{Answer, Call};
 use files::description::describe;
@@ -27,7 +27,7 @@ fn section_of(call: Call) -> Option<u16> {
 fn names_of(heap: Global, object: &[u8], calls: &[Call]) -> Result<Vec<String>, AllocError> {
     let mut names = Vec::new(heap);
     for call in calls {
-        let name = section_of(*call).and_then(|s| Name::of(object, s));
+        let name = section_of(*call).and_then(|s| name_of(object, s));
         names.push(match name {
             Some(name) => format!(in heap; "   ({name})")?,
             None => String::new(heap),
@@ -78,13 +78,20 @@ fn fold_graph<G: SectionGraph + Drop>(
         format_args!("folded         {merged} sections merged, {present} present, {rounds} rounds"),
     )?;
     let table = table_text(rt.alloc(), &pile)?;
+    send(rt, &wanted.options, table.as_slice())?;
     say(
         rt,
         &wanted.options,
         format_args!("table          {} bytes", table.len()),
     )?;
-    send(rt, &wanted.options, table.as_slice())?;
-    write_map_out(rt, &pile, &wanted.options)
+    if let Some(length) = write_map_out(rt, &pile, &wanted.options)? {
+        say(
+            rt,
+            &wanted.options,
+            format_args!("map            {length} bytes"),
+        )?;
+    }
+    Ok(())
 }
 
 pub fn fold(

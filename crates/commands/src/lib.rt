@@ -35,7 +35,7 @@ const HELP: &str = "usage: yilmacrab check [FILE]
           in order and print what each answers: ok, refused with number, place
           and layer, the sections present and dropped, the sections present and
           merged and the rounds, or a place; a line that is no call ends it, with
-          nothing written
+          nothing written; what was read is said on standard error
   merged  read a fold map and print which sections were made into one, a line for
           each: the section that was kept, and those that were folded into it;
           then those that were swept, and how many were kept, merged and swept
@@ -47,9 +47,12 @@ after -o; what is said of it then goes to standard output too, else to standard
 error. A fold map, which tells where each section went, goes to the file after
 -m. Of run, a table goes to the file after -o alone. Of an object, fold says the
 names of the sections that it is called with; merged says those of the object
-after -n. What is refused is told by an F row on standard output (the refusal's
-number, its place and its layer) and a sentence on standard error. The status is
-0, or 1 where something was refused or could not be done.";
+after -n. A number is written in digits alone, with no zero before the others.
+At most 4,096 words are taken after fold, an option with its value as one, and
+64 after the other commands. What is refused is told by an F row on standard
+output (the refusal's number, its place and its layer) and a sentence on
+standard error. The status is 0, or 1 where something was refused or could not
+be done.";
 
 fn help(rt: &impl Print) -> anyhow::Result<()> {
     println!(rt; "{HELP}")?;

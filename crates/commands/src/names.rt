@@ -1,24 +1,22 @@
-// Names of ELF sections, as lines for people have them.
+// Names of ELF sections, and other bytes from outside, as lines for people have them.
 use section_names::section_name;
 use std::fmt;
 
-// How much of a name is shown.
+// How many bytes are shown.
 const SHOWN: usize = 200;
 
-// The name of a section, from a file that nobody vouches for: what is no plain character of it is escaped.
+// Bytes that nobody vouches for: what is no plain character of them is escaped.
 #[derive(Clone, Copy)]
-pub struct Name<'a>(&'a [u8]);
+pub struct Escaped<'a>(pub &'a [u8]);
 
-impl<'a> Name<'a> {
-    // The name of a section of an object, if it has one.
-    pub fn of(object: &'a [u8], section: u16) -> Option<Name<'a>> {
-        section_name(object, section)
-            .filter(|name| !name.is_empty())
-            .map(Name)
-    }
+// The name of a section of an object, if it has one.
+pub fn name_of(object: &[u8], section: u16) -> Option<Escaped<'_>> {
+    section_name(object, section)
+        .filter(|name| !name.is_empty())
+        .map(Escaped)
 }
 
-impl fmt::Display for Name<'_> {
+impl fmt::Display for Escaped<'_> {
     fn fmt<W: fmt::Write>(&self, f: &mut fmt::Formatter<W>) -> fmt::Result {
         for x in self.0.iter().take(SHOWN) {
             write!(f, "{}", x.escape_ascii())?;
@@ -44,7 +42,7 @@ impl fmt::Display for Named<'_> {
                 write!(f, ", ")?;
             }
             write!(f, "{section}")?;
-            if let Some(name) = Name::of(self.object, *section) {
+            if let Some(name) = name_of(self.object, *section) {
                 write!(f, " ({name})")?;
             }
         }

@@ -31,18 +31,19 @@ pub fn send(rt: &(impl Files + Print), options: &Options, text: &[u8]) -> io::Re
     }
 }
 
-// The fold map of a pile, to the file that was named, if one was.
+// The fold map of a pile, to the file that was named, if one was, and its length.
 pub fn write_map_out<G: SectionGraph>(
     rt: &(impl Files + Print + AllocGlobal),
     pile: &Pile<G>,
     options: &Options,
-) -> anyhow::Result<()> {
-    if let Some(path) = &options.map {
-        let mut text = vec![in rt.alloc(); 0u8; map_length(pile)]?;
-        or_row(rt, write_map(pile, text.as_mut_slice()))?;
-        fs::write(rt, path.as_str(), text.as_slice())?;
-    }
-    Ok(())
+) -> anyhow::Result<Option<usize>> {
+    let Some(path) = &options.map else {
+        return Ok(None);
+    };
+    let mut text = vec![in rt.alloc(); 0u8; map_length(pile)]?;
+    or_row(rt, write_map(pile, text.as_mut_slice()))?;
+    fs::write(rt, path.as_str(), text.as_slice())?;
+    Ok(Some(text.len()))
 }
 
 // The table of a section graph goes out, and what it holds is said.

@@ -37,3 +37,36 @@ pub fn warn(rt: &impl Eprint, file: &[u8]) -> io::Result<()> {
     }
     Ok(())
 }
+
+#[cfg(test)]
+mod tests {
+    use super::*;
+
+    // Three section headers behind a file header: none, a symbol table, and a list that is linked to a section.
+    fn linked_to(section: u8) -> [u8; 256] {
+        let mut file = [0; 256];
+        file[40] = 64;
+        file[60] = 3;
+        file[128 + 4] = 2;
+        file[192 + 4] = 0x03;
+        file[192 + 5] = 0x4c;
+        file[192 + 6] = 0xff;
+        file[192 + 7] = 0x6f;
+        file[192 + 40] = section;
+        file
+    }
+
+    #[test]
+    fn a_list_is_stale_where_it_names_another_section(rt: HostRuntime) {
+        assert!(rt; !is_stale(linked_to(1).as_slice()));
+        assert!(rt; is_stale(linked_to(0).as_slice()));
+        assert!(rt; is_stale(linked_to(2).as_slice()));
+    }
+
+    #[test]
+    fn without_a_list_none_is_stale(rt: HostRuntime) {
+        let file = linked_to(0);
+        assert!(rt; !is_stale(&file[..192]));
+        assert!(rt; !is_stale(b""));
+    }
+}
