@@ -3,12 +3,17 @@
 #include "yilmacrab.h"
 
 #include <inttypes.h>
+#include <stddef.h>
 #include <stdio.h>
 #include <stdlib.h>
 #include <string.h>
 
 _Static_assert(sizeof(struct yilmacrab_call) == 6, "the layout of a call");
 _Static_assert(sizeof(struct yilmacrab_reply) == 48, "the layout of a reply");
+_Static_assert(offsetof(struct yilmacrab_reply, place) == 8 && offsetof(struct yilmacrab_reply, layer) == 16
+                   && offsetof(struct yilmacrab_reply, present) == 20 && offsetof(struct yilmacrab_reply, table_length) == 32
+                   && offsetof(struct yilmacrab_reply, map_length) == 40,
+               "the layout of a reply");
 
 enum { MOST_CALLS = 4096 };
 
@@ -33,8 +38,12 @@ static uint8_t *load(const char *path, size_t *length)
         perror(path);
         exit(1);
     }
-    uint8_t *bytes = block((size_t)end);
-    *length = fread(bytes, 1, (size_t)end, file);
+    *length = (size_t)end;
+    uint8_t *bytes = block(*length);
+    if (fread(bytes, 1, *length, file) != *length) {
+        perror(path);
+        exit(1);
+    }
     fclose(file);
     return bytes;
 }
@@ -50,13 +59,14 @@ static void store(const char *path, const uint8_t *bytes, size_t length)
 
 static uint16_t number(const char *word)
 {
-    char *end;
-    unsigned long value = word == NULL ? 65536 : strtoul(word, &end, 10);
-    if (value > 65535 || *end != '\0') {
-        fprintf(stderr, "fold: %s is no number from 0 to 65535\n", word == NULL ? "nothing" : word);
-        exit(1);
+    /* digits alone: strtoul would take blanks and signs before them */
+    if (word != NULL && *word != '\0' && strspn(word, "0123456789") == strlen(word)) {
+        unsigned long value = strtoul(word, NULL, 10);
+        if (value <= 65535)
+            return (uint16_t)value;
     }
-    return (uint16_t)value;
+    fprintf(stderr, "fold: %s is no number from 0 to 65535\n", word == NULL ? "nothing" : word);
+    exit(1);
 }
 
 /* The calls that the words tell. */
@@ -88,6 +98,10 @@ static size_t read_calls(char **words, struct yilmacrab_call *calls)
         if (kinds[k].numbers > 1)
             call.second = number(*words++);
         calls[count++] = call;
+    }
+    if (*words != NULL) {
+        fprintf(stderr, "fold: more than %d calls\n", MOST_CALLS);
+        exit(1);
     }
     return count;
 }

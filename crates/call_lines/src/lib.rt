@@ -132,12 +132,42 @@ mod tests {
                 }))
             )
         );
+        assert!(rt;
+            matches!(
+                read_order("pin 2"),
+                Some(Order::Call(Call::Pin { section: 2 }))
+            )
+        );
+        assert!(rt;
+            matches!(
+                read_order("root 4"),
+                Some(Order::Call(Call::Root { section: 4 }))
+            )
+        );
         assert!(rt; matches!(read_order("sweep"), Some(Order::Call(Call::Sweep))));
+        assert!(rt; matches!(read_order("fold"), Some(Order::Call(Call::Fold))));
         assert!(rt; matches!(read_order("place 7"), Some(Order::Place(7))));
         assert!(rt; read_order("bind 5").is_none());
         assert!(rt; read_order("pin 65536").is_none());
         assert!(rt; read_order("sweep 1").is_none());
+        assert!(rt; read_order("fold 1").is_none());
         assert!(rt; read_order("").is_none());
+    }
+
+    #[test]
+    fn binds_are_read(rt: HostRuntime) -> anyhow::Result<()> {
+        assert!(rt;
+            matches!(
+                bind("5=3")?,
+                Call::Bind {
+                    name: 5,
+                    section: 3
+                }
+            )
+        );
+        assert!(rt; bind("5").is_err());
+        assert!(rt; bind("5=65536").is_err());
+        Ok(())
     }
 
     #[test]
@@ -160,6 +190,14 @@ mod tests {
             },
         };
         assert_eq!(rt; format!(in rt.alloc(); "{folded}")?.as_str(), "fold 8 2 1");
+        let swept = Done {
+            call: Call::Sweep,
+            answer: Answer::Dropped {
+                present: 8,
+                dropped: 2,
+            },
+        };
+        assert_eq!(rt; format!(in rt.alloc(); "{swept}")?.as_str(), "sweep 8 2");
         let found = Found {
             section: 3,
             place: Ok(Place::Swept),
@@ -167,6 +205,14 @@ mod tests {
         assert_eq!(rt;
             format!(in rt.alloc(); "{found}")?.as_str(),
             "place 3 swept"
+        );
+        let absent = Found {
+            section: 3,
+            place: Ok(Place::Absent),
+        };
+        assert_eq!(rt;
+            format!(in rt.alloc(); "{absent}")?.as_str(),
+            "place 3 absent"
         );
         Ok(())
     }

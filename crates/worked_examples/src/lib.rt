@@ -1,6 +1,6 @@
 // The worked examples, all in one place. Each crate that defines something has a list of them; the checker computes that the definitions
 // give what stands there, and here one contract names every list. The programs `graph_cases`, `pile_cases`, `number_cases` and `refold`
-// run them through the code.
+// run them through the code, but for the maps that are read.
 
 #![tactic(auto)]
 
