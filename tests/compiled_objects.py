@@ -9,8 +9,8 @@ clang, readelf, ld and objcopy; other linkers and copiers are used where they ar
 Every file is compiled by gcc and clang in several ways, by clang for other machines too; the objects of each way are joined (ld -r) and
 each is copied (objcopy, strip). The table that `PROGRAM table` writes has to be, byte for byte, that of tools/readelf_table.py. Some that
 GNU tools joined or copied are refused, and have to be: those tools renumber symbols and leave the address-significance table as it was, so
-that it may list numbers of no symbol. Then come objects that docs/OBJECT.md refuses by other rules: the F row has to be the one that is told
-here, with the place found by readelf. The status is 1 where anything differs.
+that it may list numbers of no symbol. Then come objects that docs/OBJECT.md refuses by other rules: the F row has to be the one that is
+told here, with the place found by readelf. The status is 1 where anything differs.
 """
 import os
 import shutil
@@ -33,13 +33,15 @@ MACHINES = ["aarch64-linux-gnu", "powerpc64le-linux-gnu", "riscv64-linux-gnu"]
 ABROAD = [["clang", f"--target={machine}", "-O2", "-faddrsig"] for machine in MACHINES]
 
 LINKERS = ["ld", "ld.gold", "ld.lld"]
+LEFT_OUT = [".symtab", ".strtab", ".group", ".rela.eh_frame", ".llvm_addrsig"]
+
 # What renames, prefixes, aligns, strips. No compiler writes an alignment of 0, nor sections of these types that take memory.
 COPIERS = [
     ["objcopy", "--strip-debug", "--rename-section", ".comment=.remark,alloc,readonly,data"],
     ["objcopy", "--set-section-alignment", ".data=32", "--prefix-symbols=their_"],
     ["strip", "--strip-unneeded", "-o"],
     ["llvm-objcopy", "--strip-debug", "--set-section-alignment=.text=0"],
-    ["llvm-objcopy", *(f"--set-section-flags={name}=alloc" for name in (".symtab", ".strtab", ".group", ".rela.eh_frame", ".llvm_addrsig"))],
+    ["llvm-objcopy", *(f"--set-section-flags={name}=alloc" for name in LEFT_OUT)],
 ]
 
 # An object that is refused: what it is, how it is compiled, of which C text; the refusal's number, place and layer; and why. A place is a
