@@ -8,8 +8,8 @@ clang, readelf, ld and objcopy; other linkers and copiers are used where they ar
 
 Every file is compiled by gcc and clang in several ways, by clang for other machines too; the objects of each way are joined (ld -r) and
 each is copied (objcopy, strip). The table that `PROGRAM table` writes has to be, byte for byte, that of tools/readelf_table.py. Some that
-GNU tools joined or copied are refused, and have to be: those tools renumber symbols and leave the address-significance table as it was, so
-that it may list numbers of no symbol. Then come objects that docs/OBJECT.md refuses by other rules: the F row has to be the one that is
+are copied are refused, and have to be: these tools renumber symbols and leave the address-significance table as it was, so that it may
+list numbers of no symbol. Then come objects that docs/OBJECT.md refuses by other rules: the F row has to be the one that is
 told here, with the place found by readelf. The status is 1 where anything differs.
 """
 import os
