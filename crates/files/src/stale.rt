@@ -65,8 +65,9 @@ mod tests {
 
     #[test]
     fn without_a_list_none_is_stale(rt: HostRuntime) {
-        let file = linked_to(0);
-        assert!(rt; !is_stale(&file[..192]));
+        let mut file = linked_to(0);
+        file[192 + 4] = 0;
+        assert!(rt; !is_stale(file.as_slice()));
         assert!(rt; !is_stale(b""));
     }
 }
