@@ -1,9 +1,10 @@
 #!/usr/bin/env python3
 # Makes the data of crates/object_tests and the output that is expected of it, from an independent reading of the rules
-# (object_reference.py, written after docs/OBJECT.md) and, for the objects that compilers made, from readelf.
-import os, re, struct, subprocess, sys
+# (object_reference.py, written after docs/OBJECT.md) and, for the objects that compilers made, from readelf (readelf_table.py).
+import os, struct, sys
 here = os.path.dirname(os.path.abspath(__file__))
 sys.path.insert(0, here)
+import readelf_table
 from object_reference import faults, read, section_name, text, Bad
 crate = os.path.join(here, '..', 'crates', 'object_tests')
 data = os.path.join(crate, 'data')
@@ -267,39 +268,10 @@ def names_swept(b):
             for c in v or b'': h = (h * 31 + c + 1) % M
     return 'named%12d%12d\n' % (good, h)
 
-# what readelf tells of an object that a compiler made must agree with the reference
+# what readelf tells of an object that a compiler made must be what the reference tells: the whole table, and the names
 def readelf(path, b):
-    n, B, R = read(b)
-    secs = {}
-    for l in subprocess.run(['readelf', '-SW', path], capture_output=True, text=True).stdout.splitlines():
-        m = re.match(r'\s*\[\s*(\d+)\]\s+(?:(\S+)\s+)?(\S+)\s+([0-9a-f]{16}) ([0-9a-f]+) ([0-9a-f]+) ([0-9a-f]+)\s+(\S*)\s+(\d+)\s+(\d+)\s+(\d+)$', l)
-        if m: secs[int(m[1])] = m
-    assert len(secs) == n
-    for i, m in secs.items():
-        assert section_name(b, i) == (m[2] or '').encode(), (path, i)
-        kind, size, flags, al = m[3], int(m[6], 16), m[8], int(m[11])
-        here = 'A' in flags and kind not in ('NULL', 'SYMTAB', 'STRTAB', 'RELA', 'REL', 'GROUP', 'LOOS+0xfff4c03')
-        assert here == (i in B), (path, i)
-        if here:
-            f, a, by, pin, rs = B[i]
-            assert len(by) == size and a == max(al, 1)
-            assert bool(f & 1) == ('W' in flags) and bool(f & 4) == ('X' in flags)
-            assert (kind in ('INIT_ARRAY', 'FINI_ARRAY', 'PREINIT_ARRAY')) == (i in R)
-    syms = {}
-    for l in subprocess.run(['readelf', '-sW', path], capture_output=True, text=True).stdout.splitlines():
-        m = re.match(r'\s*(\d+): ([0-9a-f]+)\s+\S+ \S+\s+\S+\s+\S+\s+(\S+)', l)
-        if m: syms[int(m[1])] = (m[3], int(m[2], 16))
-    cur = None; seen = {}
-    for l in subprocess.run(['readelf', '-rW', path], capture_output=True, text=True).stdout.splitlines():
-        m = re.match(r"Relocation section '(\S+)'", l)
-        if m: cur = next(int(secs[i][10]) for i in secs if secs[i][2] == m[1])
-        m = re.match(r'([0-9a-f]{16})\s+([0-9a-f]{16}) \S+\s+.* ([-+]) ([0-9a-f]+)$', l)
-        if m:
-            y = int(m[2], 16) >> 32; ad = int(m[4], 16) * (-1 if m[3] == '-' else 1)
-            ndx, val = syms[y]
-            t = (1, y, ad) if ndx in ('UND', 'ABS', 'COM') else (0, int(ndx), val + ad)
-            seen.setdefault(cur, []).append((int(m[1], 16), int(m[2], 16) & 0xffffffff) + t)
-    for i in B: assert seen.get(i, []) == [tuple(r) for r in B[i][4]], (path, i)
+    assert text(read(b)) == readelf_table.table(path), path
+    for i, s in readelf_table.sections_of(path).items(): assert section_name(b, i) == s.name.encode(), (path, i)
 
 out = ''
 for name in ('gcc.o', 'clang_addrsig.o', 'clang_plain.o', 'small.o'):

@@ -7,10 +7,17 @@ use calls::{Answer, Call, Place};
 use fault::Fault;
 use std::fmt;
 
+// A number as it is printed: `parse` takes a plus sign and leading zeros too.
+fn plain(word: &str) -> Option<u16> {
+    if word.starts_with('+') || (word.starts_with('0') && word.len() > 1) {
+        return None;
+    }
+    word.parse().ok()
+}
+
 // A number after an option.
 pub fn number(word: &str) -> anyhow::Result<u16> {
-    word.parse::<u16>()
-        .context(format_args!("{word} is no number from 0 to 65535"))
+    plain(word).context(format_args!("{word} is no number from 0 to 65535 in plain digits"))
 }
 
 // A bind as an option has it, NAME=SECTION.
@@ -38,19 +45,19 @@ pub fn read_order(line: &str) -> Option<Order> {
         "bind" => {
             let (name, section) = rest.split_once(' ')?;
             Call::Bind {
-                name: name.parse().ok()?,
-                section: section.parse().ok()?,
+                name: plain(name)?,
+                section: plain(section)?,
             }
         }
         "pin" => Call::Pin {
-            section: rest.parse().ok()?,
+            section: plain(rest)?,
         },
         "root" => Call::Root {
-            section: rest.parse().ok()?,
+            section: plain(rest)?,
         },
         "sweep" if rest.is_empty() => Call::Sweep,
         "fold" if rest.is_empty() => Call::Fold,
-        "place" => return Some(Order::Place(rest.parse().ok()?)),
+        "place" => return Some(Order::Place(plain(rest)?)),
         _ => return None,
     };
     Some(Order::Call(call))
@@ -147,11 +154,22 @@ mod tests {
         assert!(rt; matches!(read_order("sweep"), Some(Order::Call(Call::Sweep))));
         assert!(rt; matches!(read_order("fold"), Some(Order::Call(Call::Fold))));
         assert!(rt; matches!(read_order("place 7"), Some(Order::Place(7))));
-        assert!(rt; read_order("bind 5").is_none());
-        assert!(rt; read_order("pin 65536").is_none());
-        assert!(rt; read_order("sweep 1").is_none());
-        assert!(rt; read_order("fold 1").is_none());
-        assert!(rt; read_order("").is_none());
+        assert!(rt; matches!(read_order("place 0"), Some(Order::Place(0))));
+        for line in [
+            "",
+            "bind 5",
+            "pin 65536",
+            "pin +5",
+            "pin 007",
+            "pin 00",
+            "pin -0",
+            "pin  5",
+            "sweep 1",
+            "fold 1",
+            "sweep\r",
+        ] {
+            assert!(rt; read_order(line).is_none());
+        }
     }
 
     #[test]

@@ -1,5 +1,6 @@
-// What a trial is to give, by the plain reader and the plain pile.
+// What a trial is to give, by the plain readers and the plain pile.
 use crate::inputs::{Input, Room};
+use crate::object_reader::read_object;
 use crate::plain_pile::{Counts, PlainPile};
 use crate::plain_reader::read;
 use crate::shapes::{Refusal, World};
@@ -111,12 +112,29 @@ fn end_of(
     Ok(Ok(ending))
 }
 
-fn told(heap: Global, input: &Input) -> Result<Result<Ending, PlainReply>, AllocError> {
+// The graph of a file, or its refusal. What begins as an object does is read as one.
+fn graph(heap: Global, file: &[u8]) -> Result<Result<World, Refusal>, AllocError> {
+    if file.first() == Some(&0x7f) {
+        read_object(heap, file)
+    } else {
+        read(heap, file)
+    }
+}
+
+fn told(
+    heap: Global,
+    input: &Input,
+    meant: Option<World>,
+) -> Result<Result<Ending, PlainReply>, AllocError> {
     let unknown = |call: &PlainCall| call.kind == 0 || call.kind > 5;
     if let Some(index) = input.calls.as_slice().iter().position(unknown) {
         return Ok(Err(unwritten(3, index)));
     }
-    let world = match read(heap, input.file.as_slice())? {
+    let graph = match meant {
+        Some(world) => Ok(world),
+        None => graph(heap, input.file.as_slice())?,
+    };
+    let world = match graph {
         Ok(world) => world,
         Err(refusal) => return Ok(Err(with_refusal(refusal, unwritten(1, 0)))),
     };
@@ -144,8 +162,13 @@ fn put(buffer: &mut [u8], text: &[u8]) {
     }
 }
 
-pub fn expectation(heap: Global, input: &Input) -> Result<Expected, AllocError> {
-    let ending = match told(heap, input)? {
+// What an input is to give. The graph is read where it is not known.
+pub fn expectation(
+    heap: Global,
+    input: &Input,
+    meant: Option<World>,
+) -> Result<Expected, AllocError> {
+    let ending = match told(heap, input, meant)? {
         Ok(ending) => ending,
         Err(reply) => {
             return Ok(Expected {

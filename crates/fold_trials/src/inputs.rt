@@ -1,5 +1,7 @@
-// What the trials are made on: tables of small graphs, some of them damaged, and short lists of calls.
+// What the trials are made on: tables and objects of small graphs, some of them damaged, and short lists of calls.
 use crate::chance::Chance;
+use crate::damage::{damaged_object, damaged_table};
+use crate::object_inputs::put_in_object;
 use crate::shapes::{Aim, Link, Part, World};
 use crate::spelling::{number, push_table};
 use buffers::plain::PlainCall;
@@ -97,14 +99,15 @@ fn part(
     })
 }
 
-fn world(heap: Global, chance: &mut Chance) -> Result<World, AllocError> {
+// A graph in which the sections below `low` are absent.
+fn world(heap: Global, chance: &mut Chance, low: usize) -> Result<World, AllocError> {
     let otherwise = match chance.below(3) {
         0 => 3,
         1 => 8,
         _ => 30,
     };
     let usage = Usage { otherwise };
-    let mut presence = Vec::new(heap);
+    let mut presence = vec![in heap; false; low]?;
     for _ in 0..chance.below(9) {
         presence.push(!chance.once_in(7))?;
     }
@@ -124,10 +127,23 @@ fn world(heap: Global, chance: &mut Chance) -> Result<World, AllocError> {
     Ok(world)
 }
 
-fn call(chance: &mut Chance, count: usize) -> PlainCall {
-    // seldom one past the last
+// The number of a section, seldom of an absent one, or one past the last.
+fn called(chance: &mut Chance, presence: &[bool]) -> u16 {
     let past = usize::from(chance.once_in(20));
-    let section = chance.short(count.saturating_add(past));
+    let s = chance.below(presence.len().saturating_add(past));
+    let present = (0..s.saturating_add(1))
+        .rev()
+        .find(|t| presence.get(*t) == Some(&true));
+    let section = if chance.once_in(6) {
+        s
+    } else {
+        present.unwrap_or(s)
+    };
+    u16::try_from(section).unwrap_or(0)
+}
+
+fn call(chance: &mut Chance, presence: &[bool]) -> PlainCall {
+    let section = called(chance, presence);
     let kind = match chance.below(40) {
         0..=17 => 1,
         18..=27 => 2,
@@ -148,13 +164,13 @@ fn call(chance: &mut Chance, count: usize) -> PlainCall {
 fn call_list(
     heap: Global,
     chance: &mut Chance,
-    count: usize,
+    presence: &[bool],
 ) -> Result<Vec<PlainCall>, AllocError> {
     let mut calls = Vec::new(heap);
     // now and then as many binds or roots as a pile takes, or some more
     if chance.once_in(25) {
         let kind = if chance.once_in(2) { 1 } else { 3 };
-        let section = chance.short(count);
+        let section = called(chance, presence);
         for i in 0..chance.short(8).saturating_add(60) {
             let first = if kind == 1 { i } else { section };
             calls.push(PlainCall {
@@ -165,61 +181,9 @@ fn call_list(
         }
     }
     for _ in 0..chance.below(5) {
-        calls.push(call(chance, count))?;
+        calls.push(call(chance, presence))?;
     }
     Ok(calls)
-}
-
-// A byte that a table may well have where another stands.
-fn byte(chance: &mut Chance) -> u8 {
-    let likely = chance.pick(&[
-        32, 10, 45, 48, 49, 50, 57, 72, 83, 66, 82, 84, 69, 127, 256, 256,
-    ]);
-    u8::try_from(likely).unwrap_or(u8::try_from(chance.below(256)).unwrap_or(0))
-}
-
-// How many rows a text has.
-fn row_count(text: &[u8]) -> usize {
-    text.iter().filter(|x| **x == b'\n').count()
-}
-
-// Row `k`, without its end.
-fn row_at(text: &[u8], k: usize) -> &[u8] {
-    text.split(|x| *x == b'\n').nth(k).unwrap_or(&[])
-}
-
-// The text with two of its rows in each other's place.
-fn rows_swapped(heap: Global, chance: &mut Chance, text: &[u8]) -> Result<Vec<u8>, AllocError> {
-    let count = row_count(text);
-    let (one, other) = (chance.below(count), chance.below(count));
-    let mut swapped = Vec::new(heap);
-    for i in 0..count {
-        let from = if i == one {
-            other
-        } else if i == other {
-            one
-        } else {
-            i
-        };
-        swapped.extend_from_slice(row_at(text, from))?;
-        swapped.push(b'\n')?;
-    }
-    Ok(swapped)
-}
-
-fn damaged(heap: Global, chance: &mut Chance, text: &[u8]) -> Result<Vec<u8>, AllocError> {
-    let place = chance.below(text.len());
-    match chance.below(4) {
-        0 => text.get(..place).unwrap_or(&[]).to_vec(heap),
-        1 => rows_swapped(heap, chance, text),
-        _ => {
-            let mut changed = text.to_vec(heap)?;
-            if let Some(old) = changed.get_mut(place) {
-                *old = byte(chance);
-            }
-            Ok(changed)
-        }
-    }
 }
 
 fn room_by_chance(chance: &mut Chance) -> Room {
@@ -230,19 +194,54 @@ fn room_by_chance(chance: &mut Chance) -> Room {
     }
 }
 
-pub fn input_by_chance(heap: Global, chance: &mut Chance) -> Result<Input, AllocError> {
-    let world = world(heap, chance)?;
-    let mut text = String::new(heap);
-    push_table(&mut text, &world)?;
-    let file = if chance.once_in(3) {
-        damaged(heap, chance, text.as_bytes())?
-    } else {
-        text.as_bytes().to_vec(heap)?
+// What kind of file a trial is made on.
+#[derive(Clone, Copy)]
+pub enum Form {
+    Table,
+    Object,
+}
+
+// A graph by chance in a file of that form. One of an object has no section 0, and is made such as an object can have it.
+fn file_by_chance(
+    heap: Global,
+    chance: &mut Chance,
+    form: Form,
+) -> Result<(Vec<u8>, World), AllocError> {
+    match form {
+        Form::Table => {
+            let world = world(heap, chance, 0)?;
+            let mut text = String::new(heap);
+            push_table(&mut text, &world)?;
+            Ok((text.as_bytes().to_vec(heap)?, world))
+        }
+        Form::Object => {
+            let mut world = world(heap, chance, 1)?;
+            let file = put_in_object(heap, chance, &mut world)?;
+            Ok((file, world))
+        }
+    }
+}
+
+// An input, and the graph that its file is to be read as, where that is known from its making.
+pub fn input_by_chance(
+    heap: Global,
+    chance: &mut Chance,
+    form: Form,
+) -> Result<(Input, Option<World>), AllocError> {
+    let (whole, world) = file_by_chance(heap, chance, form)?;
+    let presence = world.presence(heap)?;
+    let is_whole = !chance.once_in(3);
+    let file = match form {
+        _ if is_whole => whole,
+        Form::Table => damaged_table(heap, chance, whole.as_slice())?,
+        Form::Object => damaged_object(heap, chance, whole.as_slice(), presence.len())?,
     };
-    Ok(Input {
+    let input = Input {
         file,
-        calls: call_list(heap, chance, world.parts.len())?,
+        calls: call_list(heap, chance, presence.as_slice())?,
         table_room: room_by_chance(chance),
         map_room: room_by_chance(chance),
-    })
+    };
+    let is_known = is_whole && world.is_closed();
+    Ok((input, is_known.then_some(world)))
 }

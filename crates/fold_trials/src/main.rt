@@ -1,11 +1,17 @@
-// Folds many small files by the library and by a plain reader and pile of its own, which share no code with it, and counts where the two
+// Folds many small files by the library and by plain readers and a plain pile of its own, which share no code with it, and counts where the two
 // differ.
 
 #![tactic(auto)]
 
 mod chance;
+mod damage;
 mod expected;
 mod inputs;
+mod object_fields;
+mod object_inputs;
+mod object_reader;
+mod object_rules;
+mod object_writer;
 mod plain_pile;
 mod plain_reader;
 mod shapes;
@@ -14,11 +20,13 @@ mod spelling;
 use buffers::plain::fold_plain;
 use chance::Chance;
 use expected::{Expected, FILLER, expectation};
-use inputs::{Input, input_by_chance};
+use inputs::{Form, Input, input_by_chance};
 use std::alloc::{AllocError, Global};
 use std::collections::BTreeMap;
 
-const TRIALS: u32 = 4000;
+const TABLES: u32 = 4000;
+
+const OBJECTS: u32 = 2000;
 
 // What the library makes of an input, in buffers of the same length.
 fn found(heap: Global, input: &Input, expected: &Expected) -> Result<Expected, AllocError> {
@@ -89,10 +97,10 @@ fn show_difference(
     Ok(())
 }
 
-fn trial(rt: &HostRuntime, tally: &mut Tally, trial: u32) -> anyhow::Result<()> {
+fn trial(rt: &HostRuntime, tally: &mut Tally, form: Form, trial: u32) -> anyhow::Result<()> {
     let mut chance = Chance::new(u64::from(trial));
-    let input = input_by_chance(rt.alloc(), &mut chance)?;
-    let expected = expectation(rt.alloc(), &input)?;
+    let (input, meant) = input_by_chance(rt.alloc(), &mut chance, form)?;
+    let expected = expectation(rt.alloc(), &input, meant)?;
     let found = found(rt.alloc(), &input, &expected)?;
     let is_same = is_same(&expected, &found);
     if !is_same {
@@ -102,10 +110,11 @@ fn trial(rt: &HostRuntime, tally: &mut Tally, trial: u32) -> anyhow::Result<()> 
     Ok(())
 }
 
-fn main(rt: HostRuntime) -> anyhow::Result<()> {
+// So many trials on files of a form, and what they came to.
+fn trials(rt: &HostRuntime, form: Form, count: u32) -> anyhow::Result<()> {
     let mut tally = Tally::new(rt.alloc());
-    for number in 0..TRIALS {
-        trial(&rt, &mut tally, number)?;
+    for number in 0..count {
+        trial(rt, &mut tally, form, number)?;
     }
     for ((status, number), times) in &tally.replies {
         println!(rt; "status {status}, refusal {number}: {times}")?;
@@ -114,6 +123,13 @@ fn main(rt: HostRuntime) -> anyhow::Result<()> {
         "sections dropped in {}, merged in {}, two rounds or more in {}",
         tally.dropped, tally.merged, tally.deep
     )?;
-    println!(rt; "{TRIALS} trials, {} differences", tally.differences)?;
+    println!(rt; "{count} trials, {} differences", tally.differences)?;
     Ok(())
+}
+
+fn main(rt: HostRuntime) -> anyhow::Result<()> {
+    println!(rt; "tables")?;
+    trials(&rt, Form::Table, TABLES)?;
+    println!(rt; "objects")?;
+    trials(&rt, Form::Object, OBJECTS)
 }

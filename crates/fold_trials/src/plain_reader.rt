@@ -269,20 +269,13 @@ fn link_of(row: &[i64], size: i64) -> Option<Link> {
     })
 }
 
-// The table that a text is, or its refusal. A text that begins as an object does is none that the trials make.
+// The table that a text is, or its refusal.
 pub fn read(heap: Global, text: &[u8]) -> Result<Result<World, Refusal>, AllocError> {
-    let refusal = |number, place, layer| Refusal {
+    let refusal = |number, place| Refusal {
         number,
         place,
-        layer,
+        layer: 2,
     };
-    if text.first() == Some(&0x7f) {
-        return Ok(Err(if text.len() < 64 {
-            refusal(1, text.len(), 1)
-        } else {
-            refusal(2, 0, 2)
-        }));
-    }
     let mut cursor = Cursor {
         heap,
         text,
@@ -292,9 +285,9 @@ pub fn read(heap: Global, text: &[u8]) -> Result<Result<World, Refusal>, AllocEr
     match cursor.world() {
         Ok(world) => Ok(match cursor.dangling(&world) {
             None => Ok(world),
-            Some(place) => Err(refusal(4, place, 2)),
+            Some(place) => Err(refusal(4, place)),
         }),
-        Err(Trouble::BadRow) => Ok(Err(refusal(6, cursor.at, 2))),
+        Err(Trouble::BadRow) => Ok(Err(refusal(6, cursor.at))),
         Err(Trouble::Memory(error)) => Err(error),
     }
 }

@@ -54,6 +54,25 @@ impl World {
             .collect(heap)
     }
 
+    fn is_there(&self, aim: Aim) -> bool {
+        match aim {
+            Aim::Section(t) => self.part(t).is_some(),
+            Aim::Outside(_) => true,
+        }
+    }
+
+    // Whether all sections that relocations and roots name are present.
+    pub fn is_closed(&self) -> bool {
+        let leads = |link: &Link| self.is_there(link.aim);
+        self.roots
+            .as_slice()
+            .iter()
+            .all(|t| self.part(*t).is_some())
+            && (0..self.parts.len())
+                .filter_map(|s| self.part(s))
+                .all(|part| part.links.as_slice().iter().all(leads))
+    }
+
     pub fn present(&self) -> usize {
         (0..self.parts.len())
             .filter(|s| self.part(*s).is_some())

@@ -1,16 +1,17 @@
 // The reader of objects: what it holds, what it does, and its answers as a section graph, from the bytes and the notes on
 // them, with no search.
-ghost use Rattle.std.specs.Prelude.{◌≡◌, ◌+◌, ◌<◌, ◌≤◌, true, ◌&&◌, [], if◌then◌else◌, map, length, take, drop, replicate, Some, None, MatchOption, IfOk};
+ghost use Rattle.std.specs.Prelude.{◌≡◌, ◌+◌, ◌<◌, ◌≤◌, true, ◌&&◌, [], if◌then◌else◌, map, length, take, drop, replicate, Some, None, MatchOption, IfOk, OnOk};
 ghost use Rattle.elf.specs.Layout.{sections, section, plain, entry_at};
 ghost use Rattle.model.specs.declared.Setting.TheVariants.{Foldable, Pinned};
 ghost use Rattle.model.specs.Graph.{empty, section_of, record_of, relocation_of};
+ghost use Rattle.model.specs.Laws.{Valid};
 ghost use Rattle.checklist.specs.Checks.{answer};
 ghost use Rattle.checklist.specs.Laws.{Verdict};
 ghost use Rattle.rules.specs.Rules.{part, symbol};
 ghost use Rattle.rules.specs.Notes.{parts, Noted};
 ghost use Rattle.rules.specs.Ending.{Ends};
 ghost use Rattle.rules.specs.Verdict.{checks, verdict};
-ghost use Rattle.object.specs.Meaning.{low, relocation_of_entry, relocations_in};
+ghost use Rattle.object.specs.Meaning.{low, relocation_of_entry, relocations_in, meaning};
 ghost use Rattle.object.specs.Held.{held, unlisted, Told, Ready};
 ghost use Rattle.object.specs.Facts.{Seen, PartSeen};
 ghost use Rattle.graph.specs.Bytes.{bytes_of, digest};
@@ -80,6 +81,7 @@ fn no_notes() -> Notes
 fn notes_of(file: &Vec<u8>) -> Result<Notes, Fault>
     ensures ends { Ends file.now.items (checks file.now.items) result }
     ensures met { IfOk result (λ x. held file.now.items ≡ true) }
+    ensures lawful { OnOk result (Valid (meaning file.now.items)) }
     ensures first { Verdict (checks file.now.items) }
 {
     examine(file.as_slice())
@@ -119,11 +121,13 @@ impl Object {
     }
 
     // Reads a file, which is moved in as it is. It is accepted exactly where every check holds, and a refusal is that of
-    // the first check that does not hold. The reader then holds the file; one that is refused leaves it as it was.
+    // the first check that does not hold. The reader then holds the file and means its graph, which keeps the laws; a
+    // file that is refused leaves it as it was.
     pub fn read(&mut self, file: Vec<u8>) -> Result<(), Fault>
         ensures verdict { result ≡ answer (verdict file.items) tt }
         ensures first { Verdict (checks file.items) }
         ensures holds { file_of self.new ≡ after (verdict file.items) file.items (file_of self.old) }
+        ensures graph { OnOk result ((graph_of self.new ≡ meaning file.items) × Valid (meaning file.items)) }
     {
         let notes = notes_of(&file)?;
         self.file = file;

@@ -14,7 +14,7 @@ trait Gather {
     fn take(&mut self, word: String, words: &mut Args) -> anyhow::Result<()>;
 }
 
-// At most so many words with their values: what comes after is refused, and the loop ends.
+// At most so many words, an option with its value as one: the loop ends, however many there are.
 fn take_all<T: Gather + Drop>(mut gathered: T, mut words: Args, most: u16) -> anyhow::Result<T> {
     for _ in 0..most {
         let Some(word) = words.next() else {
@@ -22,7 +22,11 @@ fn take_all<T: Gather + Drop>(mut gathered: T, mut words: Args, most: u16) -> an
         };
         gathered.take(word, &mut words)?;
     }
-    bail!("too many words")
+    ensure!(
+        words.next().is_none(),
+        "at most {most} words are taken, an option with its value as one"
+    );
+    Ok(gathered)
 }
 
 // The word after an option.
@@ -182,7 +186,18 @@ mod tests {
         }
         for (line, want) in [
             ("--pin", "something has to follow --pin"),
-            ("--pin 65536", "65536 is no number from 0 to 65535"),
+            (
+                "--pin 65536",
+                "65536 is no number from 0 to 65535 in plain digits",
+            ),
+            (
+                "--root 07",
+                "07 is no number from 0 to 65535 in plain digits",
+            ),
+            (
+                "--bind +7=1",
+                "+7 is no number from 0 to 65535 in plain digits",
+            ),
             ("--bind 7", "7 is no bind, which is written NAME=SECTION"),
         ] {
             let read = read_wanted(heap, words(heap, line)?);
@@ -192,6 +207,19 @@ mod tests {
         assert_eq!(rt;
             said(heap, read)?.as_str(),
             "merged writes no file: -o is an option of fold and run"
+        );
+        Ok(())
+    }
+
+    #[test]
+    fn words_have_an_end(rt: HostRuntime) -> anyhow::Result<()> {
+        let heap = rt.alloc();
+        let some = words(heap, "a.o -o t")?;
+        assert!(rt; take_all(Options::default(), some, 2).is_ok());
+        let more = words(heap, "a.o -o t -m m")?;
+        assert_eq!(rt;
+            said(heap, take_all(Options::default(), more, 2))?.as_str(),
+            "at most 2 words are taken, an option with its value as one"
         );
         Ok(())
     }
