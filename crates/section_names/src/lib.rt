@@ -5,6 +5,8 @@
 
 ghost use Rattle.std.specs.Prelude.{◌≡◌, ◌<◌, length, position, IfSome, option_copied};
 ghost use Rattle.section_names.specs.Names.{header_place_of, table_of, is_zero, text_at, name_of};
+ghost use Rattle.section_names.specs.Laws.{OnlyNames, NamesTold};
+ghost use Rattle.section_names.specs.Examples.{ExamplesHold};
 
 use elf::{index, read_header};
 use field::read;
@@ -58,3 +60,15 @@ pub fn section_name(file: &[u8], section: u16) -> Option<&[u8]>
     let place: u32 = read(file, header_place(file, section)?).ok()?;
     text(table(file)?, place)
 }
+
+// What is told is the name that stands in the table of names, none of its bytes 0 and a 0 after them, and a name that
+// stands there is told.
+pub fn exact()
+    ensures told { NamesTold }
+    ensures only { OnlyNames }
+{}
+
+// The sections of a small file, named by the definition.
+pub fn examples_hold()
+    ensures { ExamplesHold }
+{}
