@@ -51,7 +51,10 @@ fn run_graph<G: SectionGraph + Drop>(
     eprintln!(rt; "{}", describe(rt.alloc(), &below)?)?;
     let mut pile = Pile::new(below);
     for (i, line) in calls.split_inclusive(|x| *x == b'\n').enumerate() {
-        let wanted = order(i.saturating_add(1), line.strip_suffix(b"\n").unwrap_or(line))?;
+        let wanted = order(
+            i.saturating_add(1),
+            line.strip_suffix(b"\n").unwrap_or(line),
+        )?;
         perform(rt, &mut pile, wanted)?;
     }
     if let Some(path) = &options.output {
