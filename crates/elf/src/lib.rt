@@ -111,7 +111,9 @@ impl Symbol {
     }
 }
 
-// The section header at `p`.
+// The section header at `p`. It and `read_section` are inlined: a question about an object reads headers anew, mostly for a field or
+// two, and without the hint all eight are read.
+#[inline(always)]
 pub fn read_header(b: &[u8], p: u64) -> Result<Header, Fault>
     ensures { result ≡ within b.now p 64 (header_at b.now p) }
 {
@@ -155,6 +157,7 @@ pub fn read_entry(b: &[u8], p: u64) -> Result<Entry, Fault>
 }
 
 // The header of section `i`.
+#[inline(always)]
 pub fn read_section(b: &[u8], i: u16) -> Result<Header, Fault>
     ensures { result ≡ within b.now (place b.now i) 64 (section_in b.now i) }
 {

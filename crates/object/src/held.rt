@@ -16,14 +16,13 @@ ghost use Rattle.object.specs.Held.{held, unlisted, Told, Ready};
 ghost use Rattle.object.specs.Facts.{Seen, PartSeen};
 ghost use Rattle.graph.specs.Bytes.{bytes_of, digest};
 
-use arrayvec::ArrayVec;
 use elf::{Entry, Header, Symbol, flag, kind, read_entry, read_section, read_symbol};
 use fault::Fault;
 use field::read;
 use graph::{SectionGraph, mix};
 use model::{Record, Relocation, Setting, Target};
 use reading::examine;
-use rules::{Notes, Symbols};
+use rules::{Notes, RootList, Symbols};
 use std::alloc::Global;
 
 static ZEROS: [u8; 65535] = [0; 65535];
@@ -73,7 +72,7 @@ fn no_notes() -> Notes
         symbols: Symbols { from: 0, count: 0 },
         parts: no_parts(),
         listed: None,
-        roots: ArrayVec::new(),
+        roots: RootList::none(),
     }
 }
 
@@ -309,11 +308,11 @@ impl SectionGraph for Object {
     }
 
     fn root_count(&self) -> u16 {
-        self.notes.roots.len() as u16
+        self.notes.roots.len()
     }
 
     fn root(&self, j: u16) -> Option<u16> {
-        self.notes.roots.get(j as usize).copied()
+        self.notes.roots.get(j)
     }
 
     // In place of a question for each byte.

@@ -12,17 +12,16 @@ ghost use Rattle.rules.specs.Ending.{Ends};
 ghost use Rattle.rules.specs.Known.{Parted};
 ghost use Rattle.rules.specs.Pass.{AnswersBy};
 ghost use Rattle.rules.specs.Listing.{item_checks, items, significance as significance_in, listing_rule, listing_of};
-ghost use Rattle.rules.specs.Notes.{parts, listed_in, marks_of, roots};
+ghost use Rattle.rules.specs.Notes.{parts, listed_in, marks_of, roots, told_roots};
 ghost use Rattle.rules.specs.Verdict.{checks};
 ghost use Rattle.rules.specs.Rules.{pass_rule, extent_rule, only_rule, the_only, table as table_in, part_checks, told_part, relocation_rule, symbol_rule, table_rule, symbols as symbols_in, table_rule_of, symbols_of};
 
-use arrayvec::ArrayVec;
 use elf::kind;
 use fault::{Fault, Kind};
 use field::{Number, gather, misshapen, none_yet};
 use rules::{
-    Headers, Notes, Part, Placed, SymbolTable, Symbols, Tables, is_number, mark, noted, refusal,
-    relocating,
+    Headers, Notes, Part, Placed, RootList, SymbolTable, Symbols, Tables, is_number, mark, noted,
+    refusal, relocating,
 };
 use std::ops::ControlFlow;
 
@@ -218,11 +217,10 @@ fn significance(
 }
 
 // The roots, ascending.
-fn roots(headers: Headers) -> ArrayVec<u16, 1024>
-    ensures { result.items ≡ roots headers.entry.bytes.now }
+fn roots(headers: Headers) -> RootList
+    ensures { told_roots result ≡ roots headers.entry.bytes.now }
 {
-    // not `collect`, which asks for an allocator, nor `extend`: tried, and the proof that its error never comes did not close
-    let mut found = ArrayVec::new();
+    let mut found = RootList::none();
     for i in 0..headers.count {
         if headers.section(i).is_root() {
             found.push(i);

@@ -10,7 +10,6 @@ ghost use Rattle.rules.specs.Known.{Headed, Tabled};
 ghost use Rattle.rules.specs.Listing.{number_checks, marked};
 ghost use Rattle.rules.specs.Rules.{fault_at, cut_at, identified as identified_by, head_rule, extent_checks, content_checks, only_checks, earlier, is_number, fit_checks, symbol, symbols as symbols_in, reached, entry_checks, relocating as relocating_header, table_checks, symbol_checks};
 
-use arrayvec::ArrayVec;
 use elf::{Header, Symbol, aligned, index, kind, read_entry, read_header, read_symbol};
 use fault::{Fault, Kind, Layer};
 use field::{Number, read};
@@ -32,14 +31,67 @@ pub struct Part {
     pub count: u32,
 }
 
+// The roots of an object, in order: the first `count` of `list`. No `ArrayVec`, which cannot be copied, as notes can.
+#[derive(Clone, Copy, PartialEq, Eq, Debug)]
+pub struct RootList {
+    pub list: [u16; 1024],
+    pub count: u16,
+    ghost few: { count ≤ 1024 },
+}
+
+impl RootList {
+    ghost use Rattle.std.specs.Prelude.{[], ◌∷◌, ◌++◌, slice_get};
+    ghost use Rattle.rules.specs.Notes.{told_roots};
+
+    // No root.
+    pub fn none() -> RootList
+        ensures { told_roots result ≡ [] }
+    {
+        RootList {
+            list: [0; 1024],
+            count: 0,
+        }
+    }
+
+    // They themselves.
+    fn told(&self) -> &[u16]
+        ensures { result.now ≡ told_roots self.now }
+    {
+        &self.list[..usize::from(self.count)]
+    }
+
+    // How many there are.
+    pub fn len(&self) -> u16
+        ensures { result ≡ length (told_roots self.now) }
+    {
+        self.told().len() as u16
+    }
+
+    // Root `j`.
+    pub fn get(&self, j: u16) -> Option<u16>
+        ensures { result ≡ slice_get (told_roots self.now) j }
+    {
+        self.told().get(usize::from(j)).copied()
+    }
+
+    // One root more, behind the others.
+    pub fn push(&mut self, s: u16)
+        requires { length (told_roots self.old) < 1024 }
+        ensures { told_roots self.new ≡ told_roots self.old ++ s ∷ [] }
+    {
+        self.list[usize::from(self.count)] = s;
+        self.count += 1;
+    }
+}
+
 // What is noted of an object. `parts` has for each section the number of the section with its relocations; `listed` says,
 // where there is an address-significance table, in which sections it lists a symbol; the roots ascend.
-#[derive(Drop, PartialEq, Eq, Debug)]
+#[derive(Clone, Copy, PartialEq, Eq, Debug)]
 pub struct Notes {
     pub symbols: Symbols,
     pub parts: [Option<u16>; 1024],
     pub listed: Option<[bool; 1024]>,
-    pub roots: ArrayVec<u16, 1024>,
+    pub roots: RootList,
 }
 
 // The headers of all sections of an object, which stand in the file from `first` on.
@@ -145,7 +197,8 @@ impl<'a> Headers<'a> {
         self.first + 64 * u64::from(i)
     }
 
-    // The header of section `i`.
+    // The header of section `i`, inlined as the reader of headers is.
+    #[inline(always)]
     pub fn section(self, i: u16) -> Header
         requires { i < self.count }
         ensures { result ≡ section self.entry.bytes.now i }

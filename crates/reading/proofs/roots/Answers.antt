@@ -1,5 +1,7 @@
-use Rattle.std.proofs.Common.{sym, ap, ◌∙◌, arith}
+use Rattle.std.proofs.Common.{◌∷◌, [], length, sym, ap, ◌∙◌, arith}
+use Rattle.std.proofs.lemmas.List.{length-append}
 use Rattle.elf.specs.Layout.{root}
+use Rattle.rules.specs.Notes.{told_roots}
 use Rattle.reading.proofs.Rooting.{root_more, root_same}
 use Rattle.reading.proofs.roots.Goals as goal
 use Rattle.reading.proofs.roots.Goals.{then-is_root, else-is_root}
@@ -10,11 +12,11 @@ loop-i-preserved c =
     in let i = c.loop-i.i
     in elim c.if-is_root.branch [
       | then-is_root w ↦ (
-        rw w.found-is (omega (arith, w.push.ensures.len, c.loop-i.invariant.0)),
-        rw w.found-is (w.push.ensures.items ∙ root_more b i c.loop-i.found.items c.loop-i.invariant.1 (ap root (sym c.section.ensures) ∙ sym w.if-is_root.ensures)),
+        rw w.found-is (omega (arith, ap length w.push.ensures ∙ length-append (told_roots c.loop-i.found) (i ∷ []), c.loop-i.invariant.0)),
+        rw w.found-is (w.push.ensures ∙ root_more b i (told_roots c.loop-i.found) c.loop-i.invariant.1 (ap root (sym c.section.ensures) ∙ sym w.if-is_root.ensures)),
       )
       | else-is_root w ↦ (
         rw w.found-is (omega (arith, c.loop-i.invariant.0)),
-        rw w.found-is (root_same b i c.loop-i.found.items c.loop-i.invariant.1 (ap root (sym c.section.ensures) ∙ sym w.if-is_root.ensures)),
+        rw w.found-is (root_same b i (told_roots c.loop-i.found) c.loop-i.invariant.1 (ap root (sym c.section.ensures) ∙ sym w.if-is_root.ensures)),
       )
     ]
