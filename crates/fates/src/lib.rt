@@ -67,9 +67,9 @@ fn read_row(text: &[u8], low: u16) -> Result<(u16, Fate), Cause>
     if byte_at(text, 0) != b'M' {
         return Err(Cause::Letter);
     }
-    let section = short_at::<12>(text, 1, 1023)?;
-    let outcome = short_at::<12>(text, 13, 3)?;
-    let place = short_at::<12>(text, 25, 1023)?;
+    let section = short_at(12, text, 1, 1023)?;
+    let outcome = short_at(12, text, 13, 3)?;
+    let place = short_at(12, text, 25, 1023)?;
     let fate = fate_by(section, outcome, place)?;
     end_at(text, 37)?;
     if section < low {

@@ -111,11 +111,11 @@ fn target_of(kind: u16, number: u16) -> Target
 fn record_at(text: &[u8]) -> Result<Record, Cause>
     ensures { result ≡ record_at text.now }
 {
-    let flags = word_at::<12>(text, 13, 4294967295)?;
+    let flags = word_at(12, text, 13, 4294967295)?;
     let alignment = alignment_at(text, 25)?;
-    let size = short_at::<12>(text, 37, 65535)?;
-    let relocations = short_at::<12>(text, 49, 65535)?;
-    let pinned = short_at::<12>(text, 61, 1)?;
+    let size = short_at(12, text, 37, 65535)?;
+    let relocations = short_at(12, text, 49, 65535)?;
+    let pinned = short_at(12, text, 61, 1)?;
     Ok(Record {
         flags,
         alignment,
@@ -128,16 +128,16 @@ fn record_at(text: &[u8]) -> Result<Record, Cause>
 fn target_at(text: &[u8]) -> Result<Target, Cause>
     ensures { result ≡ target_at text.now }
 {
-    let kind = short_at::<12>(text, 25, 1)?;
-    let number = short_at::<12>(text, 37, 65535)?;
+    let kind = short_at(12, text, 25, 1)?;
+    let number = short_at(12, text, 37, 65535)?;
     Ok(target_of(kind, number))
 }
 
 fn relocation_at(text: &[u8]) -> Result<Relocation, Cause>
     ensures { result ≡ relocation_at text.now }
 {
-    let offset = short_at::<12>(text, 1, 65534)?;
-    let kind = word_at::<12>(text, 13, 4294967295)?;
+    let offset = short_at(12, text, 1, 65534)?;
+    let kind = word_at(12, text, 13, 4294967295)?;
     let target = target_at(text)?;
     let displacement = displacement_at(text, 49, target)?;
     Ok(Relocation {
@@ -152,8 +152,8 @@ fn read_header(text: &[u8]) -> Result<Row<'_>, Cause>
     ensures row { answer result ≡ read_header text.now }
     ensures cut { Cut text.now result }
 {
-    let sections = short_at::<12>(text, 1, 1024)?;
-    let roots = short_at::<12>(text, 13, 4096)?;
+    let sections = short_at(12, text, 1, 1024)?;
+    let roots = short_at(12, text, 13, 4096)?;
     let part = end_at(text, 25)?;
     Ok(Row::Header {
         part,
@@ -166,7 +166,7 @@ fn read_section(text: &[u8]) -> Result<Row<'_>, Cause>
     ensures row { answer result ≡ read_section text.now }
     ensures cut { Cut text.now result }
 {
-    let number = short_at::<12>(text, 1, 1023)?;
+    let number = short_at(12, text, 1, 1023)?;
     let record = record_at(text)?;
     let part = end_at(text, 73)?;
     Ok(Row::Section {
@@ -180,13 +180,13 @@ fn read_section(text: &[u8]) -> Result<Row<'_>, Cause>
 fn byte_count(text: &[u8]) -> Result<u16, Cause>
     ensures { result ≡ counted (row_bytes text.now) }
 {
-    short_at::<4>(text, 1, 255)?;
+    short_at(4, text, 1, 255)?;
     for count in 1..16u16 {
         let at = 1 + 4 * usize::from(count);
         if byte_at(text, at) == b'\n' {
             return Ok(count);
         }
-        short_at::<4>(text, at, 255)?;
+        short_at(4, text, at, 255)?;
     }
     end_at(text, 65)?;
     Ok(16)
@@ -215,7 +215,7 @@ fn read_root(text: &[u8]) -> Result<Row<'_>, Cause>
     ensures row { answer result ≡ read_root text.now }
     ensures cut { Cut text.now result }
 {
-    let section = short_at::<12>(text, 1, 65535)?;
+    let section = short_at(12, text, 1, 65535)?;
     let part = end_at(text, 13)?;
     Ok(Row::Root { part, section })
 }
@@ -224,7 +224,7 @@ fn read_end(text: &[u8]) -> Result<Row<'_>, Cause>
     ensures row { answer result ≡ read_end text.now }
     ensures cut { Cut text.now result }
 {
-    let present = short_at::<12>(text, 1, 1024)?;
+    let present = short_at(12, text, 1, 1024)?;
     let part = end_at(text, 13)?;
     Ok(Row::End { part, present })
 }

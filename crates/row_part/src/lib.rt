@@ -31,25 +31,25 @@ pub fn byte_at(text: &[u8], at: usize) -> u8
     text.get(at).copied().unwrap_or(0)
 }
 
-// The number in the columns from `at` on. It and the two after it are inlined: in a program with several readers columns are read a
-// sixth more slowly without the hint.
+// The number in the columns from `at` on, of any width. It and the two after it are inlined: in a program with several readers columns
+// are read a sixth more slowly without the hint.
 #[inline(always)]
-pub fn column_at<const WIDTH: usize>(text: &[u8], at: usize) -> Result<i64, Cause>
-    ensures { result ≡ column_at WIDTH text.now at }
+pub fn column_at(width: usize, text: &[u8], at: usize) -> Result<i64, Cause>
+    ensures { result ≡ column_at width text.now at }
 {
     let rest = text.get(at..).ok_or(Cause::Column)?;
-    let column = rest.get(..WIDTH).ok_or(Cause::Column)?;
+    let column = rest.get(..width).ok_or(Cause::Column)?;
     read_column(column).ok_or(Cause::Column)
 }
 
 // A natural number of 32 bits, not above the limit.
 #[inline(always)]
 #[tactic(auto, unfolding(crate::specs::Parts::natural_at))]
-pub fn word_at<const WIDTH: usize>(text: &[u8], at: usize, limit: u32) -> Result<u32, Cause>
-    ensures value { result ≡ natural_at WIDTH text.now at limit }
+pub fn word_at(width: usize, text: &[u8], at: usize, limit: u32) -> Result<u32, Cause>
+    ensures value { result ≡ natural_at width text.now at limit }
     ensures low { IfOk result (λ n. n ≤ limit) }
 {
-    match u32::try_from(column_at::<WIDTH>(text, at)?) {
+    match u32::try_from(column_at(width, text, at)?) {
         Ok(number) if number <= limit => Ok(number),
         _ => Err(Cause::Range),
     }
@@ -58,10 +58,10 @@ pub fn word_at<const WIDTH: usize>(text: &[u8], at: usize, limit: u32) -> Result
 // A natural number of 16 bits, not above the limit. One generic function for both widths would need a trait with a law,
 // and an impl of it for each, which is longer than this.
 #[inline(always)]
-pub fn short_at<const WIDTH: usize>(text: &[u8], at: usize, limit: u16) -> Result<u16, Cause>
-    ensures { result ≡ natural_at WIDTH text.now at limit }
+pub fn short_at(width: usize, text: &[u8], at: usize, limit: u16) -> Result<u16, Cause>
+    ensures { result ≡ natural_at width text.now at limit }
 {
-    let number = word_at::<WIDTH>(text, at, u32::from(limit))?;
+    let number = word_at(width, text, at, u32::from(limit))?;
     Ok(number as u16)
 }
 
@@ -69,7 +69,7 @@ pub fn short_at<const WIDTH: usize>(text: &[u8], at: usize, limit: u16) -> Resul
 pub fn alignment_at(text: &[u8], at: usize) -> Result<u32, Cause>
     ensures { result ≡ alignment_at text.now at }
 {
-    let value = word_at::<12>(text, at, 65536)?;
+    let value = word_at(12, text, at, 65536)?;
     if is_alignment(u64::from(value)) {
         Ok(value)
     } else {
@@ -91,7 +91,7 @@ fn highest(target: Target) -> i64
 pub fn displacement_at(text: &[u8], at: usize, target: Target) -> Result<i64, Cause>
     ensures { result ≡ displacement_at text.now at target }
 {
-    let number = column_at::<12>(text, at)?;
+    let number = column_at(12, text, at)?;
     if (-2147483648..=highest(target)).contains(&number) {
         Ok(number)
     } else {
