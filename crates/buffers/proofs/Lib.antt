@@ -1,3 +1,4 @@
 mod Files
 mod Ending
+mod Counting
 mod Buffers

@@ -13,11 +13,12 @@ use Rattle.ledger.specs.Told.{told, Reachable, Kept}
 abbrev pub Sound : Graph → Ledger → Type 0
 Sound g t = ∥ Reachable g t ∥₁
 
--- call c on a pile over g, with answer a: the state after it and the answer are as defined, and whatever calls led to the state before
--- it, all is promised of the state after it
+-- call c on a pile over g, with answer a: the state after it and the answer are as defined, calls that led to the inner table before it
+-- give calls that lead to the one after it, and whatever calls led to the state before it, all is promised of the state after it
 pub record Does (g : Graph) (t t' : Ledger) (c : Call) (a : Answer) : Type 0 where
   pub state : told g t' ≡ step (told g t) c
   pub answer : a ≡ answer (told g t) c
+  pub reachable : Reachable g t → Reachable g t'
   pub promise : (calls : List Call) → told g t ≡ after g calls → Kept g (calls ++ c ∷ []) (told g t')
 
 -- call c is not refused, or it is and does nothing but answer why

@@ -34,8 +34,11 @@ pile_valid g v t sound = ∥∥₁_elim sound (Valid-prop (told g t).graph) (λ 
 pub fresh_told : (g : Graph) (t : Ledger) → t ≡ fresh → told g t ≡ start g
 fresh_told g t e = ap (told g) e ∙ told_fresh g
 
+pub fresh_reached : (g : Graph) (t : Ledger) → t ≡ fresh → Reachable g t
+fresh_reached g t e = subst (Reachable g) (sym e) (fresh_reachable g)
+
 pub fresh_sound : (g : Graph) (t : Ledger) → t ≡ fresh → Sound g t
-fresh_sound g t e = subst (Sound g) (sym e) ∣ fresh_reachable g ∣₁
+fresh_sound g t e = ∣ fresh_reached g t e ∣₁
 
 -- the inner table after a call is one that calls led to again, and the call does what it should
 pub record Done (g : Graph) (t t' : Ledger) (c : Call) (a : Answer) : Type 0 where
@@ -53,7 +56,7 @@ module _ (g : Graph) (v : Valid g) (t : Ledger) (sound : Sound g t) where
       let same : told g t' ≡ step (told g t) c = ∥∥₁_elim sound (State-set (told g t') (step (told g t) c)) e in
       record {
         sound = ∥∥₁_elim sound ∥∥₁_prop (λ r. ∣ step_reachable g t r c t' (e r) (b r) ∣₁);
-        does = record { state = same; answer = h; promise = step_kept g v t c t' same };
+        does = record { state = same; answer = h; reachable = λ r. step_reachable g t r c t' same (b r); promise = step_kept g v t c t' same };
       }
 
   -- a refused call
@@ -64,6 +67,7 @@ module _ (g : Graph) (v : Valid g) (t : Ledger) (sound : Sound g t) where
       record {
         state = same;
         answer = sym (ap (λ (o : Option Fault). refused_or o (answered (told g t) c)) e);
+        reachable = λ r. step_reachable g t r c t same r.bounds;
         promise = step_kept g v t c t same;
       }
 

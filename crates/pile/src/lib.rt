@@ -17,7 +17,7 @@ ghost use Rattle.calls.specs.declared.Call.TheVariants.{Bind, Pin, Root, Sweep, 
 ghost use Rattle.calls.specs.declared.Answer.TheVariants.{Accepted, Dropped, Merged};
 ghost use Rattle.calls.specs.Outcome.{outcome};
 ghost use Rattle.runs.specs.State.{start, refusal, place_of};
-ghost use Rattle.ledger.specs.Told.{told, Kept};
+ghost use Rattle.ledger.specs.Told.{told, Reachable, Kept};
 ghost use Rattle.pile.specs.Does.{Sound, Does, Checked};
 ghost use Rattle.pile.specs.Piling.{pile_valid};
 
@@ -37,7 +37,7 @@ use std::array;
 pub struct Pile<G: SectionGraph> {
     below: G,
     table: Ledger,
-    ghost sound: { Sound (G.SectionGraph.graph below) table },
+    pub ghost sound: { Sound (G.SectionGraph.graph below) table },
 }
 
 // Whether section `s` of a graph is present.
@@ -128,10 +128,11 @@ impl<G: SectionGraph> SectionGraph for Pile<G> {
 
 impl<G: SectionGraph> Pile<G> {
     // A new pile over a section graph: nothing is bound, pinned or rooted.
-    #[tactic(auto, using(crate::specs::Piling::fresh_told, crate::specs::Piling::fresh_sound))]
+    #[tactic(auto, using(crate::specs::Piling::fresh_told, crate::specs::Piling::fresh_reached, crate::specs::Piling::fresh_sound))]
     pub fn new(below: G) -> Pile<G>
         ensures over { result.below ≡ below }
         ensures state { told (G.SectionGraph.graph below) result.table ≡ start (G.SectionGraph.graph below) }
+        ensures reachable { Reachable (G.SectionGraph.graph below) result.table }
     {
         Pile {
             below,
@@ -310,8 +311,10 @@ impl<G: SectionGraph> Pile<G> {
 
     // A list of calls on a new pile, done in order. A call that is refused alters nothing, and the list goes on.
     fn apply_all(&mut self, calls: &[Call])
-        requires { told (G.SectionGraph.graph self.old.below) self.old.table ≡ start (G.SectionGraph.graph self.old.below) }
+        requires state { told (G.SectionGraph.graph self.old.below) self.old.table ≡ start (G.SectionGraph.graph self.old.below) }
+        requires reachable { Reachable (G.SectionGraph.graph self.old.below) self.old.table }
         ensures over { self.new.below ≡ self.old.below }
+        ensures reachable { Reachable (G.SectionGraph.graph self.old.below) self.new.table }
         ensures kept { Kept (G.SectionGraph.graph self.old.below) calls.now (told (G.SectionGraph.graph self.old.below) self.new.table) }
     {
         for call in calls {
@@ -324,6 +327,7 @@ impl<G: SectionGraph> Pile<G> {
 // one, the roots, that nothing smaller has roots alike, and that once swept and folded it does not change.
 pub fn run<G: SectionGraph>(below: G, calls: &[Call]) -> Pile<G>
     ensures over { result.below ≡ below }
+    ensures reachable { Reachable (G.SectionGraph.graph below) result.table }
     ensures kept { Kept (G.SectionGraph.graph below) calls.now (told (G.SectionGraph.graph below) result.table) }
 {
     let mut pile = Pile::new(below);

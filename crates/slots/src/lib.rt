@@ -23,7 +23,7 @@ pub struct Slots {
 pub struct Present {
     pub there: [bool; 1024],
     pub count: u16,
-    ghost few: { count ≤ 1024 },
+    pub ghost few: { count ≤ 1024 },
 }
 
 impl Slots {
