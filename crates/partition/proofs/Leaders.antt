@@ -1,7 +1,7 @@
 -- The base of a section is the first leader of its own content.
-use Rattle.std.proofs.Common.{◌≡◌, ℕ, ◌+◌, ◌<◌, ◌≤◌, Bool, true, false, eqb, List, length, set, replicate, Some, None, Option, Decides, sym, refl, ap, ◌∙◌, subst, ⊎_elim, arith}
+use Rattle.std.proofs.Common.{◌≡◌, ℕ, ◌+◌, ◌<◌, ◌≤◌, Bool, true, false, ◌&&◌, List, length, set, replicate, Decides, sym, refl, ap, ◌∙◌, subst, ⊎_elim, arith}
 use Rattle.std.proofs.lemmas.List.{get_or-set_same, get_or-set_other, length-set, length-replicate}
-use Rattle.std.proofs.lemmas.Bool.{cases_lt, cases_Bool, both_ways, cond-true, cond-false, eq-eqb, eqb-true, and_parts, and_from}
+use Rattle.std.proofs.lemmas.Bool.{cases_lt, cases_Bool, both_ways, cond-true, cond-false, eq-eqb, ne_eqb, eqb-true, and_parts, and_from}
 use Rattle.std.proofs.lemmas.Bool.Decides.{Decides-and}
 use Rattle.model.specs.Graph.{Graph, section_of}
 use Rattle.steps.specs.Below.{least_below}
@@ -10,7 +10,7 @@ use Rattle.unfolding.specs.Groups.{foldable, FoldAble}
 use Rattle.content.specs.Core.{core_of, same_core, digest_core, Core}
 use Rattle.content.proofs.Cores.{core_decides}
 use Rattle.partition.specs.declared.Base.{Base}
-use Rattle.partition.specs.Classes.{Found, cored, digest_of, base_at, base_in, is_led_by, same_base, based, Based, Bases}
+use Rattle.partition.specs.Classes.{Found, cored, digest_of, no_base, base_at, base_in, is_led_by, same_base, based, Based, Bases}
 
 module _ (g : Graph) where
   abbrev core : ℕ → Core
@@ -24,13 +24,17 @@ module _ (g : Graph) where
   abbrev lead_of : ℕ → ℕ
   lead_of s = least_below (cored g s) s
 
-  base_fold : (s : ℕ) → FoldAble g s → base_at g s ≡ Some (record { leader = lead_of s; digest = digest_of g s })
-  unfolding base_at
-  base_fold s h = cond-true (foldable g s) (Some (record { leader = lead_of s; digest = digest_of g s })) None h
+  -- the base that a foldable section has
+  abbrev base : ℕ → Base
+  base s = record { leader = lead_of s; digest = digest_of g s }
 
-  pub base_none : (s : ℕ) → foldable g s ≡ false → base_at g s ≡ None
+  base_fold : (s : ℕ) → FoldAble g s → base_at g s ≡ base s
   unfolding base_at
-  base_none s h = cond-false (foldable g s) (Some (record { leader = lead_of s; digest = digest_of g s })) None h
+  base_fold s h = cond-true (foldable g s) (base s) no_base h
+
+  pub base_none : (s : ℕ) → foldable g s ≡ false → base_at g s ≡ no_base
+  unfolding base_at
+  base_none s h = cond-false (foldable g s) (base s) no_base h
 
   lead_member : (s : ℕ) → FoldAble g s → FoldAble g (lead_of s) × (core (lead_of s) ≡ core s)
   lead_member s h = (cored_decides s (lead_of s)).0 (least_passes (cored g s) s ((cored_decides s s).1 (h, refl)))
@@ -50,39 +54,34 @@ module _ (g : Graph) where
   -- one core, one base
   pub base_same : (s t : ℕ) → FoldAble g s → FoldAble g t → core s ≡ core t → same_base (base_at g s) (base_at g t) ≡ true
   base_same s t h f e =
-      rw (base_fold s h, base_fold t f)
-      (and_from
-      (eqb (lead_of s) (lead_of t))
-      (eqb (digest_of g s) (digest_of g t))
-      (eq-eqb (lead_of s) (lead_of t) (lead_same s t h f e))
-      (eq-eqb (digest_of g s) (digest_of g t) (ap digest_core e)))
+      rw (base_fold s h, base_fold t f) (eq-eqb (lead_of s) (lead_of t) (lead_same s t h f e))
 
   pub base_shares : (s t : ℕ) → FoldAble g s → FoldAble g t → same_base (base_at g s) (base_at g t) ≡ true → core s ≡ core t
   base_shares s t h f e =
-      let tests : same_base (Some (record { leader = lead_of s; digest = digest_of g s })) (Some (record { leader = lead_of t; digest = digest_of g t })) ≡ true =
-      rw (base_fold s h, base_fold t f) at e in
-      let leads : lead_of s ≡ lead_of t = eqb-true (lead_of s) (lead_of t) (and_parts (eqb (lead_of s) (lead_of t)) (eqb (digest_of g s) (digest_of g t)) tests).0 in
+      let test : same_base (base s) (base t) ≡ true = rw (base_fold s h, base_fold t f) at e in
+      let leads : lead_of s ≡ lead_of t = eqb-true (lead_of s) (lead_of t) test in
       sym (lead_member s h).1 ∙ (ap core leads ∙ (lead_member t f).1)
 
   -- a section that leads its base is foldable, and the first with its core
-  leads_itself : (t : ℕ) → is_led_by (base_at g t) t ≡ true → FoldAble g t × (lead_of t ≡ t)
-  leads_itself t e = ⊎_elim (λ h. (h, eqb-true (lead_of t) t (rw (base_fold t h) at e))) never (cases_Bool (foldable g t))
+  leads_itself : (t : ℕ) → t < 1024 → is_led_by (base_at g t) t ≡ true → FoldAble g t × (lead_of t ≡ t)
+  leads_itself t small e = ⊎_elim (λ h. (h, eqb-true (lead_of t) t (rw (base_fold t h) at e))) never (cases_Bool (foldable g t))
     where
       never : foldable g t ≡ false → FoldAble g t × (lead_of t ≡ t)
       never h =
-          let z : false ≡ true = rw (base_none t h) at e in
-          absurd (both_ways (foldable g t) h (let y : ◌≡◌ {A = ℕ} 0 1 = cc in absurd (omega arith)))
+          let led : is_led_by no_base t ≡ true = rw (base_none t h) at e in
+          let same : 1024 ≡ t = eqb-true 1024 t led in
+          absurd (omega arith)
 
   -- the first leader with the core of section s leads its base
   base_found :
-      (bases : List (Option Base)) (s m : ℕ) → FoldAble g s → Based g bases s → Found (based g bases s) 0 s m → m ≡ lead_of s
-  base_found bases s m h below f = ⊎_elim inside outside (cases_lt m s)
+      (bases : List Base) (s m : ℕ) → s < 1024 → FoldAble g s → Based g bases s → Found (based g bases s) 0 s m → m ≡ lead_of s
+  base_found bases s m small h below f = ⊎_elim inside outside (cases_lt m s)
     where
       inside : m < s → m ≡ lead_of s
       inside lt =
           let tests = and_parts (is_led_by (base_in bases m) m) (same_core (section_of g m) (section_of g s)) (f.found lt) in
           let led : is_led_by (base_at g m) m ≡ true = rw (below m lt) at tests.0 in
-          let leads = leads_itself m led in
+          let leads = leads_itself m (omega arith) led in
           sym leads.1 ∙ lead_same m s leads.0 h ((core_decides (section_of g m) (section_of g s)).0 tests.1)
 
       outside : s ≤ m → m ≡ lead_of s
@@ -106,42 +105,51 @@ module _ (g : Graph) where
 
   -- the base of section s from the first leader
   pub base_made :
-      (bases : List (Option Base)) (s m h : ℕ) →
+      (bases : List Base) (s m h : ℕ) →
+      s < 1024 →
       FoldAble g s →
       Based g bases s →
       Found (based g bases s) 0 s m →
       h ≡ digest_of g s →
-      Some (record { leader = m; digest = h }) ≡ base_at g s
-  base_made bases s m h f below found digest =
-      let lead = base_found bases s m f below found in
-      (λ i. Some (record { leader = lead i; digest = digest i })) ∙ sym (base_fold s f)
+      record { leader = m; digest = h } ≡ base_at g s
+  base_made bases s m h small f below found digest =
+      let lead = base_found bases s m small f below found in
+      (λ i. record { leader = lead i; digest = digest i }) ∙ sym (base_fold s f)
 
-  -- a section that does not lead a base with the digest of section s has another core than it, or leads none
+  -- a section that leads its base and has another digest than section s has another core
   pub digest_decides :
-      (bases : List (Option Base)) (s t : ℕ) →
+      (bases : List Base) (s t : ℕ) →
+      s < 1024 →
       t < s →
       Based g bases s →
-      (base_in bases t ≡ Some (record { leader = t; digest = digest_of g s }) → ⊥) →
+      ((base_in bases t).digest ≡ digest_of g s → ⊥) →
       false ≡ based g bases s t
-  digest_decides bases s t l below ne = unlike (based g bases s t) refl
+  digest_decides bases s t small l below ne = unlike (based g bases s t) refl
     where
       unlike : (b : Bool) → based g bases s t ≡ b → false ≡ based g bases s t
       unlike false e = sym e
       unlike true e =
           let tests = and_parts (is_led_by (base_in bases t) t) (same_core (section_of g t) (section_of g s)) e in
           let led : is_led_by (base_at g t) t ≡ true = rw (below t l) at tests.0 in
-          let leads = leads_itself t led in
+          let leads = leads_itself t (omega arith) led in
           let same = ap digest_core ((core_decides (section_of g t) (section_of g s)).0 tests.1) in
-          let lead = leads.1 in
-          absurd (ne (below t l ∙ (base_fold t leads.0 ∙ (λ i. Some (record { leader = lead i; digest = same i })))))
+          absurd (ne (ap (λ (b : Base). b.digest) (below t l ∙ base_fold t leads.0) ∙ same))
+
+-- what a search asks of one section
+
+pub led_shares : (b : Base) (t : ℕ) (r s : Bool) → b.leader ≡ t → r ≡ s → r ≡ (is_led_by b t && s)
+led_shares b t r s e h = h ∙ sym (ap (λ (x : Bool). x && s) (eq-eqb b.leader t e))
+
+pub unled_none : (b : Base) (t : ℕ) (r s : Bool) → (b.leader ≡ t → ⊥) → r ≡ false → r ≡ (is_led_by b t && s)
+unled_none b t r s ne h = h ∙ sym (ap (λ (x : Bool). x && s) (ne_eqb b.leader t ne))
 
 -- the loop over the sections: those below n are done
-pub record Filled (g : Graph) (bases : List (Option Base)) (n : ℕ) : Type 0 where
+pub record Filled (g : Graph) (bases : List Base) (n : ℕ) : Type 0 where
   pub sized : length bases ≡ 1024
   pub done : Based g bases n
 
 pub filled_set :
-    (g : Graph) (bases : List (Option Base)) (n : ℕ) (b : Option Base) →
+    (g : Graph) (bases : List Base) (n : ℕ) (b : Base) →
     Filled g bases n → n < 1024 → b ≡ base_at g n → Filled g (set bases n b) (n + 1)
 filled_set g bases n b f l e =
     record {
@@ -149,7 +157,7 @@ filled_set g bases n b f l e =
       done =
           λ t k.
           ⊎_elim
-          (λ lt. get_or-set_other bases n t b None (λ (q : t ≡ n). omega arith) ∙ f.done t lt)
+          (λ lt. get_or-set_other bases n t b (record { leader = 0; digest = 0 }) (λ (q : t ≡ n). omega arith) ∙ f.done t lt)
           (λ le.
           let at : n ≡ t = omega arith in
           subst (λ (x : ℕ). base_in (set bases n b) x ≡ base_at g x) at (here ∙ e))
@@ -157,10 +165,10 @@ filled_set g bases n b f l e =
     }
   where
     here : base_in (set bases n b) n ≡ b
-    here = get_or-set_same bases n b None (let k = f.sized in omega arith)
+    here = get_or-set_same bases n b (record { leader = 0; digest = 0 }) (let k = f.sized in omega arith)
 
-pub filled_start : (g : Graph) → Filled g (replicate 1024 None) 0
-filled_start g = record { sized = length-replicate {A = Option Base} 1024 None; done = λ t k. absurd (omega arith) }
+pub filled_start : (g : Graph) → Filled g (replicate 1024 no_base) 0
+filled_start g = record { sized = length-replicate {A = Base} 1024 no_base; done = λ t k. absurd (omega arith) }
 
-pub filled_end : (g : Graph) (bases : List (Option Base)) (n : ℕ) → Filled g bases n → 1024 ≤ n → Bases g bases
+pub filled_end : (g : Graph) (bases : List Base) (n : ℕ) → Filled g bases n → 1024 ≤ n → Bases g bases
 filled_end g bases n f l = record { sized = f.sized; at = λ t k. f.done t (omega arith) }

@@ -127,7 +127,7 @@ module _ (g : Graph) (v : Valid g) (k : ℕ) (cs : List ℕ) (c : Classes g k cs
 
   -- what the search of a round finds is the class at depth k + 1
   pub round_class :
-      (bases : List (Option Base)) (new : List ℕ) (s m : ℕ) →
+      (bases : List Base) (new : List ℕ) (s m : ℕ) →
       Bases g bases →
       Classed g (suc k) new s →
       s < 1024 →

@@ -95,7 +95,7 @@ abbrev pub Refining : Graph → List ℕ → List ℕ → ℕ → Type 0
 Refining g old new n = (k : ℕ) → Classes g k old → Filling g (suc k) new n
 
 pub refining_set :
-    (g : Graph) → Valid g → (bases : List (Option Base)) (old new : List ℕ) (n m : ℕ) →
+    (g : Graph) → Valid g → (bases : List Base) (old new : List ℕ) (n m : ℕ) →
     Bases g bases →
     Refining g old new n →
     n < 1024 →

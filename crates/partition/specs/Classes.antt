@@ -1,5 +1,5 @@
 -- Classes of sections at a depth, their bases, and one round.
-use Rattle.std.specs.Prelude.{◌≡◌, ℕ, suc, ◌<◌, ◌≤◌, Bool, true, false, cond, ◌&&◌, List, length, Some, None, Option, ◌==◌, slice_index, slice_index_or, unwrap_or}
+use Rattle.std.specs.Prelude.{◌≡◌, ℕ, suc, ◌<◌, ◌≤◌, Bool, true, false, cond, ◌&&◌, List, length, Option, ◌==◌, slice_index, slice_index_or, unwrap_or}
 use Rattle.model.specs.Graph.{Graph, section_of}
 use Rattle.graph.specs.Bytes.{relocations_in}
 use Rattle.steps.specs.Below.{least_below}
@@ -33,33 +33,34 @@ cored g s t = foldable g t && same_core (section_of g t) (section_of g s)
 abbrev pub digest_of : Graph → ℕ → ℕ
 digest_of g s = digest_core (core_of (section_of g s))
 
+-- the base of a section that is not foldable: no section leads it
+abbrev pub no_base : Base
+no_base = record { leader = 1024; digest = 0 }
+
 -- the base of a foldable section: the lowest such section, and the digest of the core
-unfoldable pub base_at : Graph → ℕ → Option Base
-base_at g s = cond (foldable g s) (Some (record { leader = least_below (cored g s) s; digest = digest_of g s })) None
+unfoldable pub base_at : Graph → ℕ → Base
+base_at g s = cond (foldable g s) (record { leader = least_below (cored g s) s; digest = digest_of g s }) no_base
 
--- the base of section t in a list of bases
-abbrev pub base_in : List (Option Base) → ℕ → Option Base
-base_in bases t = slice_index_or bases t None
+-- the base of section t in a list of bases, one of zeros past the end
+abbrev pub base_in : List Base → ℕ → Base
+base_in bases t = slice_index_or bases t (record { leader = 0; digest = 0 })
 
-abbrev pub is_led_by : Option Base → ℕ → Bool
-is_led_by None t = false
-is_led_by (Some b) t = b.leader == t
+abbrev pub is_led_by : Base → ℕ → Bool
+is_led_by b t = b.leader == t
 
-abbrev pub same_base : Option Base → Option Base → Bool
-same_base None None = true
-same_base None (Some b) = false
-same_base (Some a) None = false
-same_base (Some a) (Some b) = a.leader == b.leader && a.digest == b.digest
+-- one leader, and so one core and one digest
+abbrev pub same_base : Base → Base → Bool
+same_base a b = a.leader == b.leader
 
 -- section t leads its base, and has the core of section s
-abbrev pub based : Graph → List (Option Base) → ℕ → ℕ → Bool
+abbrev pub based : Graph → List Base → ℕ → ℕ → Bool
 based g bases s t = is_led_by (base_in bases t) t && same_core (section_of g t) (section_of g s)
 
 -- the bases of the sections below n
-abbrev pub Based : Graph → List (Option Base) → ℕ → Type 0
+abbrev pub Based : Graph → List Base → ℕ → Type 0
 Based g bases n = (t : ℕ) → t < n → base_in bases t ≡ base_at g t
 
-pub record Bases (g : Graph) (bases : List (Option Base)) : Type 0 where
+pub record Bases (g : Graph) (bases : List Base) : Type 0 where
   pub sized : length bases ≡ 1024
   pub at : Based g bases 1024
 
@@ -82,7 +83,7 @@ pub record Classes (g : Graph) (k : ℕ) (cs : List ℕ) : Type 0 where
   pub at : Classed g k cs 1024
 
 -- section t leads its new class, and has the old class of section s, its base, and targets in the same old classes
-abbrev pub joined : Graph → List (Option Base) → List ℕ → List ℕ → ℕ → ℕ → Bool
+abbrev pub joined : Graph → List Base → List ℕ → List ℕ → ℕ → ℕ → Bool
 joined g bases old new s t =
     (slice_index new t == t) &&
     (slice_index old t == slice_index old s &&

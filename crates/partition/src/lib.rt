@@ -12,19 +12,25 @@ use graph::SectionGraph;
 use std::array;
 
 // The base of a foldable section, the lowest foldable one with the same content but for the sections that relocations point at, and a
-// digest of that content.
+// digest of that content. A section that may not be folded has `NO_BASE`, which no section leads, and no option is asked: two searches
+// go over all pairs of sections, and with an option in each place they took twice as long.
 #[derive(Clone, Copy, PartialEq, Eq, Debug)]
 struct Base {
     leader: u16,
     digest: u64,
 }
 
+const NO_BASE: Base = Base {
+    leader: 1024,
+    digest: 0,
+};
+
 // A foldable section whose base is sought: the bases of the sections below it, and the digest of its content.
 // Apart from `Refinement`: here the bases are known below the section only.
 #[derive(Drop)]
 struct Sought<'a, G: SectionGraph> {
     graph: &'a G,
-    bases: &'a [Option<Base>; 1024],
+    bases: &'a [Base; 1024],
     section: u16,
     digest: u64,
     ghost small: { section < 1024 },
@@ -36,7 +42,7 @@ struct Sought<'a, G: SectionGraph> {
 #[derive(Drop)]
 struct Refinement<'a, G: SectionGraph> {
     graph: &'a G,
-    bases: &'a [Option<Base>; 1024],
+    bases: &'a [Base; 1024],
     ghost known: { Bases (G.SectionGraph.graph graph.now) bases.now },
 }
 
@@ -109,11 +115,8 @@ impl<'a, G: SectionGraph> Sought<'a, G> {
         requires { t < self.now.section }
         ensures { result ≡ based (G.SectionGraph.graph self.now.graph.now) self.now.bases.now self.now.section t }
     {
-        let wanted = Base {
-            leader: t,
-            digest: self.digest,
-        };
-        self.bases[t as usize] == Some(wanted) && same_content(self.graph, t, self.section)
+        let base = self.bases[t as usize];
+        base.leader == t && base.digest == self.digest && same_content(self.graph, t, self.section)
     }
 
     // The lowest section below that leads the base that is sought, and the section itself if there is none.
@@ -124,14 +127,14 @@ impl<'a, G: SectionGraph> Sought<'a, G> {
     }
 }
 
-// The base of section `s` from those of the sections below it, if it is foldable.
-fn base_of<G: SectionGraph>(graph: &G, bases: &[Option<Base>; 1024], s: u16) -> Option<Base>
+// The base of section `s` from those of the sections below it.
+fn base_of<G: SectionGraph>(graph: &G, bases: &[Base; 1024], s: u16) -> Base
     requires small { s < 1024 }
     requires below { Based (G.SectionGraph.graph graph.now) bases.now s }
     ensures { result ≡ base_at (G.SectionGraph.graph graph.now) s }
 {
     if !may_fold(graph, s) {
-        return None;
+        return NO_BASE;
     }
     let digest = content_digest(graph, s);
     let sought = Sought {
@@ -141,15 +144,15 @@ fn base_of<G: SectionGraph>(graph: &G, bases: &[Option<Base>; 1024], s: u16) -> 
         digest,
     };
     let leader = sought.leader();
-    Some(Base { leader, digest })
+    Base { leader, digest }
 }
 
-// The base of each foldable section. A loop over the numbers, since each base is found from those before it.
+// The base of each section. A loop over the numbers, since each base is found from those before it.
 #[tactic(auto, using(crate::proofs::Leaders::filled_start, crate::proofs::Leaders::filled_set, crate::proofs::Leaders::filled_end))]
-fn bases<G: SectionGraph>(graph: &G) -> [Option<Base>; 1024]
+fn bases<G: SectionGraph>(graph: &G) -> [Base; 1024]
     ensures { Bases (G.SectionGraph.graph graph.now) result }
 {
-    let mut bases = [None; 1024];
+    let mut bases = [NO_BASE; 1024];
     for s in 0..1024u16 {
         let here = base_of(graph, &bases, s);
         bases[s as usize] = here;
@@ -167,7 +170,7 @@ impl<'a, G: SectionGraph> Refinement<'a, G> {
     {
         new[t as usize] == t
             && old[t as usize] == old[s as usize]
-            && self.bases[t as usize] == self.bases[s as usize]
+            && self.bases[t as usize].leader == self.bases[s as usize].leader
             && same_aims(self.graph, old, t, s)
     }
 

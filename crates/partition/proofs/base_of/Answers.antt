@@ -9,6 +9,7 @@ returns-then-not-may_fold g c =
 pub returns : goal.returns
 returns g c =
     base_made (g.G.SectionGraph.graph c.args.graph.now) c.args.bases.now c.args.s c.leader-leader.result c.content_digest-digest.result
+    c.requires.small
     (sym c.may_fold.ensures ∙ c.if-not-may_fold.false)
     c.requires.below
     c.leader-leader.ensures
