@@ -6,7 +6,7 @@ use Rattle.std.specs.Int.{div_ceil}
 use Rattle.std.specs.List.{flat_map, slice_get}
 use Rattle.std.proofs.lemmas.List.{append-nil, get_or-take, get_or-drop, drop_more, drop_all, drop-drop, length-take, length-drop}
 use Rattle.std.proofs.lemmas.Grind.{same_number_lists, flat_map-append}
-use Rattle.std.proofs.lemmas.Option.{slice_get-get_or}
+use Rattle.std.proofs.lemmas.Option.{slice_get-get_or, slice_get_past}
 use Rattle.std.proofs.lemmas.Bool.{cases_lt}
 use Rattle.model.specs.declared.Record.{Record}
 use Rattle.model.specs.declared.Relocation.{Relocation}
@@ -143,6 +143,12 @@ section_told s (Some b) r e =
       ap (λ x. x.size) (sym same),
       ap (λ x. x.relocations) (sym same),
     )
+
+-- past the last byte there is none
+pub past_last : (o : Option Body) (r : Record) (i : ℕ) → told_record o ≡ Some r → r.size ≤ i → 0 ≡ unwrap_or (slice_get (bytes_in o) i) 0
+past_last o r i e l =
+    let size : r.size ≡ length (bytes_in o) = (section_told 0 o r e).1 in
+    ap (λ x. unwrap_or x 0) (sym (slice_get_past (bytes_in o) i (omega arith)))
 
 -- the whole table, with the counts that the code has
 pub table_parts : (g : Graph) (n k present : ℕ)
