@@ -9,13 +9,8 @@ use table::Table;
 use table_writer::table_length;
 use texts::table_text;
 
-fn tell<G: SectionGraph>(
-    rt: &(impl Print + AllocGlobal),
-    kind: &str,
-    graph: &G,
-) -> anyhow::Result<()> {
-    let description = describe(rt.alloc(), graph)?;
-    println!(rt; "{kind}\n{description}")?;
+fn tell<G: SectionGraph>(rt: &impl Print, kind: &str, graph: &G) -> anyhow::Result<()> {
+    println!(rt; "{kind}\n{}", describe(graph))?;
     Ok(())
 }
 

@@ -59,7 +59,7 @@ fn fold_graph<G: SectionGraph + Drop>(
     names: &[String],
     wanted: &Wanted,
 ) -> anyhow::Result<()> {
-    say(rt, &wanted.options, describe(rt.alloc(), &below)?)?;
+    say(rt, &wanted.options, describe(&below))?;
     let mut pile = Pile::new(below);
     for (i, call) in wanted.calls.iter().enumerate() {
         let name = names.get(i).map_or("", |name| name.as_str());

@@ -48,7 +48,7 @@ fn run_graph<G: SectionGraph + Drop>(
     options: &Options,
 ) -> anyhow::Result<()> {
     // standard output has a line for each call, and nothing else
-    eprintln!(rt; "{}", describe(rt.alloc(), &below)?)?;
+    eprintln!(rt; "{}", describe(&below))?;
     let mut pile = Pile::new(below);
     for (i, line) in calls.split_inclusive(|x| *x == b'\n').enumerate() {
         let wanted = order(

@@ -52,7 +52,7 @@ pub fn write_out<G: SectionGraph>(
     graph: &G,
     options: &Options,
 ) -> anyhow::Result<()> {
-    let said = describe(rt.alloc(), graph)?;
+    let said = describe(graph);
     send(rt, options, table_text(rt.alloc(), graph)?.as_slice())?;
     say(rt, options, said)?;
     Ok(())
