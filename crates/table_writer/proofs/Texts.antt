@@ -1,12 +1,10 @@
 -- The parts of a table's text, one row or one section after another.
-use Rattle.std.proofs.Common.{◌≡◌, ℕ, zero, suc, ◌+◌, ◌-◌, ◌*◌, ◌<◌, ◌≤◌, min, unwrap_or, ◌⊎◌, List, [], ◌∷◌, ◌++◌, length, get_or, take, drop, Some, None, Option, sym, refl, ap, subst, ◌∙◌, inl, inr, append_assoc, add-one, arith}
-use Rattle.std.specs.Array.{IsElementAt, IsFromFnResultFrom}
-use Rattle.std.specs.Fn.{Called, Mut}
+use Rattle.std.proofs.Common.{◌≡◌, ℕ, zero, suc, ◌+◌, ◌-◌, ◌*◌, ◌<◌, ◌≤◌, min, unwrap_or, ◌⊎◌, List, [], ◌∷◌, ◌++◌, length, get_or, set, take, drop, Some, None, Option, sym, refl, ap, ◌∙◌, inl, inr, append_assoc, add-one, arith}
 use Rattle.std.specs.Int.{div_ceil}
 use Rattle.std.specs.List.{flat_map, slice_get}
-use Rattle.std.proofs.lemmas.List.{append-nil, get_or-take, get_or-drop, drop_more, drop_all, drop-drop, length-take, length-drop}
-use Rattle.std.proofs.lemmas.Grind.{same_number_lists, flat_map-append}
-use Rattle.std.proofs.lemmas.Option.{slice_get-get_or, slice_get_past}
+use Rattle.std.proofs.lemmas.List.{append-nil, get_or-take, get_or-drop, get_or-set_other, drop_more, drop_all, drop-drop, length-take, length-drop}
+use Rattle.std.proofs.lemmas.Grind.{same_number_lists, flat_map-append, get_or-set_at}
+use Rattle.std.proofs.lemmas.Option.{slice_get-get_or}
 use Rattle.std.proofs.lemmas.Bool.{cases_lt}
 use Rattle.model.specs.declared.Record.{Record}
 use Rattle.model.specs.declared.Relocation.{Relocation}
@@ -144,12 +142,6 @@ section_told s (Some b) r e =
       ap (λ x. x.relocations) (sym same),
     )
 
--- past the last byte there is none
-pub past_last : (o : Option Body) (r : Record) (i : ℕ) → told_record o ≡ Some r → r.size ≤ i → 0 ≡ unwrap_or (slice_get (bytes_in o) i) 0
-past_last o r i e l =
-    let size : r.size ≡ length (bytes_in o) = (section_told 0 o r e).1 in
-    ap (λ x. unwrap_or x 0) (sym (slice_get_past (bytes_in o) i (omega arith)))
-
 -- the whole table, with the counts that the code has
 pub table_parts : (g : Graph) (n k present : ℕ)
     → n ≡ length g.sections
@@ -194,11 +186,27 @@ sections_pieces bs =
     in_pieces (λ s. section_text s (get_or bs s None)) (λ s. sections_text s (drop s bs)) (length bs) (sections_more bs)
     (sections_all bs (length bs) (omega arith))
 
+-- a row into which the byte at place i is put
+pub row_more : (f : ℕ → ℕ) (row : List ℕ) (i x : ℕ)
+    → i < length row
+    → x ≡ f i
+    → ((j : ℕ) → j < i → get_or row j 0 ≡ f j)
+    → (j : ℕ) → j < i + 1 → get_or (set row i x) j 0 ≡ f j
+row_more f row i x inside here before j low = go (cases_lt j i)
+  where
+    go : (j < i) ⊎ (i ≤ j) → get_or (set row i x) j 0 ≡ f j
+    go (inl less) =
+        let apart : j ≡ i → ⊥ = λ (e : j ≡ i). omega (arith, less) in
+        get_or-set_other row i j x 0 apart ∙ before j less
+    go (inr last) =
+        let at : j ≡ i = omega arith in
+        get_or-set_at row i j x 0 at inside ∙ here ∙ ap f (sym at)
+
 -- a row of bytes that were asked for one by one
 pub row_gathered : (bs row : List ℕ) (start count : ℕ)
     → count ≡ min (length bs - start) 16
     → length row ≡ 16
-    → ((i : ℕ) → i < 16 → get_or row i 0 ≡ unwrap_or (slice_get bs (start + i)) 0)
+    → ((i : ℕ) → i < count → get_or row i 0 ≡ unwrap_or (slice_get bs (start + i)) 0)
     → take 16 (take count row) ≡ take 16 (drop start bs)
 row_gathered bs row start count e long each =
     same_number_lists (take 16 (take count row)) (take 16 (drop start bs))
@@ -211,22 +219,7 @@ row_gathered bs row start count e long each =
         let inside : start + i < length bs = omega arith in
         get_or-take 16 (take count row) i 0 few
         ∙ get_or-take count row i 0 low
-        ∙ each i few
+        ∙ each i low
         ∙ ap (λ o. unwrap_or o 0) (slice_get-get_or bs (start + i) 0 inside)
         ∙ sym (get_or-drop start bs i 0)
         ∙ sym (get_or-take 16 (drop start bs) i 0 few)
-
--- what a closure that keeps its state gives at each number from i on
-pub each_made : {F : Type 0} (g : Mut F (ℕ × Unit {0}) ℕ) (P : ℕ → ℕ → Type 0) (f : F)
-    → ((k r : ℕ) (f' : F) → Called g f (k, tt) r f' → P k r × (f' ≡ f))
-    → (ys : List ℕ) (n i k : ℕ) → IsFromFnResultFrom g f ys i n → i ≤ k → k < i + n → P k (get_or ys k 0)
-each_made g P f step ys zero i k e low high = absurd (omega arith)
-each_made g P f step ys (suc n) i k e low high =
-    let here = step i e.1 e.0 e.3 in
-    go (cases_lt i k) here.0 e.2
-    (λ above. each_made g P f step ys n (i + 1) k (subst (λ q. IsFromFnResultFrom g q ys (i + 1) n) here.1 e.4) (omega arith) (omega arith))
-  where
-    go : (i < k) ⊎ (k ≤ i) → P i e.1 → IsElementAt ys i e.1 → (i < k → P k (get_or ys k 0)) → P k (get_or ys k 0)
-    go (inl above) p element deeper = deeper above
-    go (inr same) p element deeper =
-        let at : i ≡ k = omega arith in subst (λ j. P j (get_or ys j 0)) at (subst (P i) (sym (element.1 0)) p)

@@ -2,7 +2,7 @@
 
 #![tactic(auto)]
 
-ghost use Rattle.std.specs.Prelude.{◌≡◌, ◌+◌, ◌*◌, ◌<◌, ◌≤◌, ◌++◌, length, unwrap_or, slice_get, Some};
+ghost use Rattle.std.specs.Prelude.{◌≡◌, ◌+◌, ◌*◌, ◌<◌, ◌≤◌, ◌++◌, length, Some};
 ghost use Rattle.model.specs.Graph.{section_of, record_of, relocation_of, root_of, root_count_of};
 ghost use Rattle.row_writer.specs.Writing.{wrote, put};
 ghost use Rattle.layout.specs.Layout.{text_of, present_count};
@@ -18,7 +18,6 @@ use pieces::write_each;
 use row_writer::{
     write_bytes, write_end, write_header, write_relocation, write_root, write_section,
 };
-use std::array;
 
 // How long the rows of all sections are: but for the first row, those of the roots and the last, that is the table.
 fn sections_length<G: SectionGraph>(graph: &G) -> usize
@@ -59,26 +58,18 @@ struct Section<'a, G: SectionGraph> {
 }
 
 impl<'a, G: SectionGraph> Section<'a, G> {
-    // Byte `i`, and 0 past the last: the graph is asked for its bytes alone.
-    #[tactic(auto, using(crate::proofs::Texts::past_last))]
-    fn byte(&self, i: u16) -> u8
-        ensures { result ≡ unwrap_or (slice_get (bytes_of (G.SectionGraph.graph self.now.graph.now) self.now.number) i) 0 }
-    {
-        if i < self.info.size {
-            self.graph.byte(self.number, i).unwrap_or(0)
-        } else {
-            0
-        }
-    }
-
-    // Writes the row of the sixteen bytes from `16 * k` on, or of those that are left.
+    // Writes the row of the sixteen bytes from `16 * k` on, or of those that are left. The loop asks for no byte past the last, and the
+    // compiler can take out of it what a graph looks up for the section; of `array::from_fn` with a test it could not.
     fn write_byte_row(&self, k: u16, out: &mut [u8]) -> Result<usize, Fault>
         requires { 16 * k < self.now.info.size }
         ensures { Writes (byte_row (bytes_of (G.SectionGraph.graph self.now.graph.now) self.now.number) k) out.old out.new result }
     {
         let start = 16 * k;
-        let row: [u8; 16] = array::from_fn(|i| self.byte(start + i as u16));
         let count = (self.info.size - start).min(16);
+        let mut row = [0u8; 16];
+        for i in 0..count {
+            row[usize::from(i)] = self.graph.byte(self.number, start + i).unwrap_or(0);
+        }
         write_bytes(&row[..usize::from(count)], out)
     }
 
