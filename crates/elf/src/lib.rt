@@ -111,8 +111,8 @@ impl Symbol {
     }
 }
 
-// The section header at `p`. It and `read_section` are inlined: a question about an object reads headers anew, mostly for a field or
-// two, and without the hint all eight are read.
+// The section header at `p`. It and `read_section` are inlined: the compiler can then leave out the fields that a caller has no use
+// for, and take the others out of a loop.
 #[inline(always)]
 pub fn read_header(b: &[u8], p: u64) -> Result<Header, Fault>
     ensures { result ≡ within b.now p 64 (header_at b.now p) }
