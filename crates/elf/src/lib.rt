@@ -111,7 +111,7 @@ impl Symbol {
     }
 }
 
-// The section header at `p`. It and `read_section` are inlined: the compiler can then leave out the fields that a caller has no use
+// The section header at `p`. It and `read_section` are inlined, so that the compiler may leave out the fields that a caller has no use
 // for, and take the others out of a loop.
 #[inline(always)]
 pub fn read_header(b: &[u8], p: u64) -> Result<Header, Fault>

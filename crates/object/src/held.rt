@@ -134,8 +134,9 @@ impl Object {
         Ok(())
     }
 
-    // The header of section `i`. It is inlined, and so is all that asks for a byte or a relocation: the compiler can then take the
-    // headers of a section out of a loop that asks for many. With some of these hints alone, callers took up to 1.7 times the instructions.
+    // The header of section `i`. It is inlined, and so are `shown`, `part`, `bytes`, `byte`, `relocation` and `relocation_from`, so that the
+    // compiler may take the headers of a section out of a loop that asks for many bytes or relocations. Some of these hints without the
+    // others made callers slower (docs/LOOK-BACK.md).
     #[inline(always)]
     #[tactic(auto, using(crate::proofs::Showing::header_read))]
     fn section(&self, i: u16) -> Header

@@ -58,8 +58,9 @@ struct Section<'a, G: SectionGraph> {
 }
 
 impl<'a, G: SectionGraph> Section<'a, G> {
-    // Writes the row of the sixteen bytes from `16 * k` on, or of those that are left. The loop asks for no byte past the last, and the
-    // compiler can take out of it what a graph looks up for the section; of `array::from_fn` with a test it could not.
+    // Writes the row of the sixteen bytes from `16 * k` on, or of those that are left. The loop asks for no byte past the last, and where
+    // a graph's `byte` is inlined the compiler may take out of it what the graph looks up for the section. Out of `array::from_fn`, with
+    // a test in it for the end of the section, it did not.
     fn write_byte_row(&self, k: u16, out: &mut [u8]) -> Result<usize, Fault>
         requires { 16 * k < self.now.info.size }
         ensures { Writes (byte_row (bytes_of (G.SectionGraph.graph self.now.graph.now) self.now.number) k) out.old out.new result }
