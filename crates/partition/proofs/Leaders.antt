@@ -1,16 +1,19 @@
 -- The base of a section is the first leader of its own content.
-use Rattle.std.proofs.Common.{◌≡◌, ℕ, ◌+◌, ◌<◌, ◌≤◌, Bool, true, false, ◌&&◌, List, length, set, replicate, Decides, sym, refl, ap, ◌∙◌, subst, ⊎_elim, arith}
+use Rattle.std.proofs.Common.{◌≡◌, ℕ, ◌+◌, ◌<◌, ◌≤◌, Bool, true, false, eqb, ◌&&◌, ◌==◌, slice_index, List, length, set, replicate, Decides, sym, refl, ap, ◌∙◌, subst, ⊎_elim, ◌⊎◌, inl, inr, arith}
 use Rattle.std.proofs.lemmas.List.{get_or-set_same, get_or-set_other, length-set, length-replicate}
 use Rattle.std.proofs.lemmas.Bool.{cases_lt, cases_Bool, both_ways, cond-true, cond-false, eq-eqb, ne_eqb, eqb-true, and_parts, and_from}
 use Rattle.std.proofs.lemmas.Bool.Decides.{Decides-and}
 use Rattle.model.specs.Graph.{Graph, section_of}
 use Rattle.steps.specs.Below.{least_below}
 use Rattle.steps.proofs.Below.{least_passes, least_least}
+use Rattle.graph.specs.Bytes.{relocations_in}
+use Rattle.unfolding.specs.Depth.{same_list}
 use Rattle.unfolding.specs.Groups.{foldable, FoldAble}
 use Rattle.content.specs.Core.{core_of, same_core, digest_core, Core}
+use Rattle.content.specs.Aims.{same_aim}
 use Rattle.content.proofs.Cores.{core_decides}
 use Rattle.partition.specs.declared.Base.{Base}
-use Rattle.partition.specs.Classes.{Found, cored, digest_of, no_base, base_at, base_in, is_led_by, same_base, based, Based, Bases}
+use Rattle.partition.specs.Classes.{Found, cored, digest_of, no_base, base_at, base_in, is_led_by, same_leader, same_base, based, joined, Based, Bases}
 
 module _ (g : Graph) where
   abbrev core : ℕ → Core
@@ -54,13 +57,68 @@ module _ (g : Graph) where
   -- one core, one base
   pub base_same : (s t : ℕ) → FoldAble g s → FoldAble g t → core s ≡ core t → same_base (base_at g s) (base_at g t) ≡ true
   base_same s t h f e =
-      rw (base_fold s h, base_fold t f) (eq-eqb (lead_of s) (lead_of t) (lead_same s t h f e))
+      rw (base_fold s h, base_fold t f)
+      (and_from
+      (eqb (lead_of s) (lead_of t))
+      (eqb (digest_of g s) (digest_of g t))
+      (eq-eqb (lead_of s) (lead_of t) (lead_same s t h f e))
+      (eq-eqb (digest_of g s) (digest_of g t) (ap digest_core e)))
 
-  pub base_shares : (s t : ℕ) → FoldAble g s → FoldAble g t → same_base (base_at g s) (base_at g t) ≡ true → core s ≡ core t
+  pub base_shares : (s t : ℕ) → FoldAble g s → FoldAble g t → same_leader (base_at g s) (base_at g t) ≡ true → core s ≡ core t
   base_shares s t h f e =
-      let test : same_base (base s) (base t) ≡ true = rw (base_fold s h, base_fold t f) at e in
+      let test : same_leader (base s) (base t) ≡ true = rw (base_fold s h, base_fold t f) at e in
       let leads : lead_of s ≡ lead_of t = eqb-true (lead_of s) (lead_of t) test in
       sym (lead_member s h).1 ∙ (ap core leads ∙ (lead_member t f).1)
+
+  -- sections whose bases have one leader have one base: that of a section that is not foldable has a leader that no section is
+  one_leader : (s t : ℕ) → s < 1024 → t < 1024 → (base_at g s).leader ≡ (base_at g t).leader → base_at g s ≡ base_at g t
+  one_leader s t small low e = go (cases_Bool (foldable g s)) (cases_Bool (foldable g t))
+    where
+      go : (foldable g s ≡ true) ⊎ (foldable g s ≡ false) → (foldable g t ≡ true) ⊎ (foldable g t ≡ false) → base_at g s ≡ base_at g t
+      go (inl h) (inl f) =
+          let lead : lead_of s ≡ lead_of t = rw (base_fold s h, base_fold t f) at e in
+          let digest = ap digest_core (base_shares s t h f (eq-eqb (base_at g s).leader (base_at g t).leader e)) in
+          base_fold s h ∙ ((λ i. record { leader = lead i; digest = digest i }) ∙ sym (base_fold t f))
+      go (inl h) (inr f) =
+          let led : lead_of s ≡ 1024 = rw (base_fold s h, base_none t f) at e in
+          let top = lead_lowest s s h refl in
+          absurd (omega arith)
+      go (inr h) (inl f) =
+          let led : 1024 ≡ lead_of t = rw (base_none s h, base_fold t f) at e in
+          let top = lead_lowest t t f refl in
+          absurd (omega arith)
+      go (inr h) (inr f) = base_none s h ∙ sym (base_none t f)
+
+  -- so the leaders alone tell whether two bases in the list of all are one
+  pub leaders_decide :
+      (bases : List Base) (s t : ℕ) → Bases g bases → s < 1024 → t < s → same_base (base_in bases t) (base_in bases s) ≡ same_leader (base_in bases t) (base_in bases s)
+  leaders_decide bases s t known small low = go (same_leader (base_in bases t) (base_in bases s)) refl
+    where
+      go : (b : Bool) → same_leader (base_in bases t) (base_in bases s) ≡ b → same_base (base_in bases t) (base_in bases s) ≡ same_leader (base_in bases t) (base_in bases s)
+      go false e = rw e refl
+      go true e =
+          let lead = eqb-true (base_in bases t).leader (base_in bases s).leader e in
+          let same : (base_at g t).leader ≡ (base_at g s).leader = rw (known.at t (omega arith), known.at s small) at lead in
+          let base = known.at t (omega arith) ∙ (one_leader t s (omega arith) small same ∙ sym (known.at s small)) in
+          rw e (eq-eqb (base_in bases t).digest (base_in bases s).digest (ap (λ (b : Base). b.digest) base))
+
+  -- and so in a round
+  pub joined_by_leaders :
+      (bases : List Base) (old new : List ℕ) (s t : ℕ) →
+      Bases g bases →
+      s < 1024 →
+      t < s →
+      joined g bases old new s t ≡
+      ((slice_index new t == t) &&
+      ((slice_index old t == slice_index old s) &&
+      (same_leader (base_in bases t) (base_in bases s) &&
+      same_list (same_aim old) (relocations_in (section_of g t)) (relocations_in (section_of g s)))))
+  joined_by_leaders bases old new s t known small low =
+      ap (λ (b : Bool).
+      (slice_index new t == t) &&
+      ((slice_index old t == slice_index old s) &&
+      (b && same_list (same_aim old) (relocations_in (section_of g t)) (relocations_in (section_of g s)))))
+      (leaders_decide bases s t known small low)
 
   -- a section that leads its base is foldable, and the first with its core
   leads_itself : (t : ℕ) → t < 1024 → is_led_by (base_at g t) t ≡ true → FoldAble g t × (lead_of t ≡ t)

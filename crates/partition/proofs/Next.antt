@@ -19,7 +19,7 @@ use Rattle.content.specs.Core.{Core, core_of}
 use Rattle.content.specs.Aims.{class_in, same_aim}
 use Rattle.content.proofs.Arms.{arms_join, arms_split}
 use Rattle.partition.specs.declared.Base.{Base}
-use Rattle.partition.specs.Classes.{Found, base_in, same_base, Bases, class_at, Classed, Classes, joined}
+use Rattle.partition.specs.Classes.{Found, base_in, same_leader, same_base, Bases, class_at, Classed, Classes, joined}
 use Rattle.partition.proofs.Leaders.{base_same, base_shares}
 
 arms_are : (o : Option Body) → arms_in o ≡ map arm (relocations_in o)
@@ -210,8 +210,13 @@ module _ (g : Graph) (v : Valid g) (k : ℕ) (cs : List ℕ) (c : Classes g k cs
 
           cores : core_of (section_of g m) ≡ core_of (section_of g s)
           cores =
+              let leads =
+              and_parts
+              (same_leader (base_in bases m) (base_in bases s))
+              (eqb (base_in bases m).digest (base_in bases s).digest)
+              rest.0 in
               base_shares g m s fold_m fold_s
-              (rw (b.at m (omega arith), b.at s l) at rest.0)
+              (rw (b.at m (omega arith), b.at s l) at leads.0)
 
       outside : s ≤ m → m ≡ class_at g (suc k) s
       outside le = ⊎_elim group single (cases_Bool (foldable g s))

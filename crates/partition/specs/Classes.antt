@@ -48,9 +48,12 @@ base_in bases t = slice_index_or bases t (record { leader = 0; digest = 0 })
 abbrev pub is_led_by : Base → ℕ → Bool
 is_led_by b t = b.leader == t
 
--- one leader, and so one core and one digest
+abbrev pub same_leader : Base → Base → Bool
+same_leader a b = a.leader == b.leader
+
+-- one leader and one digest; for the bases of sections the leader alone decides
 abbrev pub same_base : Base → Base → Bool
-same_base a b = a.leader == b.leader
+same_base a b = same_leader a b && a.digest == b.digest
 
 -- section t leads its base, and has the core of section s
 abbrev pub based : Graph → List Base → ℕ → ℕ → Bool

@@ -162,7 +162,8 @@ fn bases<G: SectionGraph>(graph: &G) -> [Base; 1024]
 
 impl<'a, G: SectionGraph> Refinement<'a, G> {
     // Whether section `s` joins section `t` in a round: `t` leads its new class, and both have the same old class, the same base, and
-    // targets in the same old classes.
+    // targets in the same old classes. Of two bases the leaders are compared; they tell the digests.
+    #[tactic(auto, using(crate::proofs::Leaders::joined_by_leaders))]
     fn joins(&self, old: &[u16; 1024], new: &[u16; 1024], s: u16, t: u16) -> bool
         requires small { s < 1024 }
         requires low { t < s }
