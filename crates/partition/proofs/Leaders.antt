@@ -70,7 +70,7 @@ module _ (g : Graph) where
       let leads : lead_of s ≡ lead_of t = eqb-true (lead_of s) (lead_of t) test in
       sym (lead_member s h).1 ∙ (ap core leads ∙ (lead_member t f).1)
 
-  -- sections whose bases have one leader have one base: that of a section that is not foldable has a leader that no section is
+  -- sections whose bases have one leader have one base: a section that is not foldable has the leader 1,024
   one_leader : (s t : ℕ) → s < 1024 → t < 1024 → (base_at g s).leader ≡ (base_at g t).leader → base_at g s ≡ base_at g t
   one_leader s t small low e = go (cases_Bool (foldable g s)) (cases_Bool (foldable g t))
     where
@@ -91,16 +91,26 @@ module _ (g : Graph) where
 
   -- so the leaders alone tell whether two bases in the list of all are one
   pub leaders_decide :
-      (bases : List Base) (s t : ℕ) → Bases g bases → s < 1024 → t < s → same_base (base_in bases t) (base_in bases s) ≡ same_leader (base_in bases t) (base_in bases s)
-  leaders_decide bases s t known small low = go (same_leader (base_in bases t) (base_in bases s)) refl
+      (bases : List Base) (s t : ℕ) →
+      Bases g bases →
+      s < 1024 →
+      t < s →
+      same_base (base_in bases t) (base_in bases s) ≡ same_leader (base_in bases t) (base_in bases s)
+  leaders_decide bases s t known small low = go (same_leader a b) refl
     where
-      go : (b : Bool) → same_leader (base_in bases t) (base_in bases s) ≡ b → same_base (base_in bases t) (base_in bases s) ≡ same_leader (base_in bases t) (base_in bases s)
+      a : Base
+      a = base_in bases t
+
+      b : Base
+      b = base_in bases s
+
+      go : (r : Bool) → same_leader a b ≡ r → same_base a b ≡ same_leader a b
       go false e = rw e refl
       go true e =
-          let lead = eqb-true (base_in bases t).leader (base_in bases s).leader e in
-          let same : (base_at g t).leader ≡ (base_at g s).leader = rw (known.at t (omega arith), known.at s small) at lead in
-          let base = known.at t (omega arith) ∙ (one_leader t s (omega arith) small same ∙ sym (known.at s small)) in
-          rw e (eq-eqb (base_in bases t).digest (base_in bases s).digest (ap (λ (b : Base). b.digest) base))
+          let lead : (base_at g t).leader ≡ (base_at g s).leader =
+          rw (known.at t (omega arith), known.at s small) at (eqb-true a.leader b.leader e) in
+          let one = known.at t (omega arith) ∙ (one_leader t s (omega arith) small lead ∙ sym (known.at s small)) in
+          rw e (eq-eqb a.digest b.digest (ap (λ (x : Base). x.digest) one))
 
   -- and so in a round
   pub joined_by_leaders :
@@ -113,12 +123,7 @@ module _ (g : Graph) where
       ((slice_index old t == slice_index old s) &&
       (same_leader (base_in bases t) (base_in bases s) &&
       same_list (same_aim old) (relocations_in (section_of g t)) (relocations_in (section_of g s)))))
-  joined_by_leaders bases old new s t known small low =
-      ap (λ (b : Bool).
-      (slice_index new t == t) &&
-      ((slice_index old t == slice_index old s) &&
-      (b && same_list (same_aim old) (relocations_in (section_of g t)) (relocations_in (section_of g s)))))
-      (leaders_decide bases s t known small low)
+  joined_by_leaders bases old new s t known small low = rw (leaders_decide bases s t known small low) refl
 
   -- a section that leads its base is foldable, and the first with its core
   leads_itself : (t : ℕ) → t < 1024 → is_led_by (base_at g t) t ≡ true → FoldAble g t × (lead_of t ≡ t)
@@ -174,13 +179,13 @@ module _ (g : Graph) where
       let lead = base_found bases s m small f below found in
       (λ i. record { leader = lead i; digest = digest i }) ∙ sym (base_fold s f)
 
-  -- a section that leads its base and has another digest than section s has another core
+  -- a section that does not lead a base with the digest of section s has another core than it, or leads none
   pub digest_decides :
       (bases : List Base) (s t : ℕ) →
       s < 1024 →
       t < s →
       Based g bases s →
-      ((base_in bases t).digest ≡ digest_of g s → ⊥) →
+      (base_in bases t ≡ record { leader = t; digest = digest_of g s } → ⊥) →
       false ≡ based g bases s t
   digest_decides bases s t small l below ne = unlike (based g bases s t) refl
     where
@@ -191,7 +196,18 @@ module _ (g : Graph) where
           let led : is_led_by (base_at g t) t ≡ true = rw (below t l) at tests.0 in
           let leads = leads_itself t (omega arith) led in
           let same = ap digest_core ((core_decides (section_of g t) (section_of g s)).0 tests.1) in
-          absurd (ne (ap (λ (b : Base). b.digest) (below t l ∙ base_fold t leads.0) ∙ same))
+          let lead = leads.1 in
+          absurd (ne (below t l ∙ (base_fold t leads.0 ∙ (λ i. record { leader = lead i; digest = same i }))))
+
+  -- so has one whose base has another digest
+  pub digest_differs :
+      (bases : List Base) (s t : ℕ) →
+      s < 1024 →
+      t < s →
+      Based g bases s →
+      ((base_in bases t).digest ≡ digest_of g s → ⊥) →
+      false ≡ based g bases s t
+  digest_differs bases s t small l below ne = digest_decides bases s t small l below (λ e. ne (ap (λ (b : Base). b.digest) e))
 
 -- what a search asks of one section
 
@@ -200,6 +216,29 @@ led_shares b t r s e h = h ∙ sym (ap (λ (x : Bool). x && s) (eq-eqb b.leader 
 
 pub unled_none : (b : Base) (t : ℕ) (r s : Bool) → (b.leader ≡ t → ⊥) → r ≡ false → r ≡ (is_led_by b t && s)
 unled_none b t r s ne h = h ∙ sym (ap (λ (x : Bool). x && s) (ne_eqb b.leader t ne))
+
+-- the digests may be compared before the contents
+pub based_by_digests :
+    (g : Graph) (bases : List Base) (s t : ℕ) →
+    s < 1024 →
+    t < s →
+    Based g bases s →
+    based g bases s t ≡
+    (((base_in bases t).leader == t) &&
+    (((base_in bases t).digest == digest_of g s) && same_core (section_of g t) (section_of g s)))
+based_by_digests g bases s t small low below = go ((base_in bases t).leader == t) ((base_in bases t).digest == digest_of g s) refl refl
+  where
+    same : Bool
+    same = same_core (section_of g t) (section_of g s)
+
+    go : (a b : Bool) →
+        ((base_in bases t).leader == t) ≡ a →
+        ((base_in bases t).digest == digest_of g s) ≡ b →
+        based g bases s t ≡ (a && (b && same))
+    go false b e h = sym (unled_none (base_in bases t) t false same (λ q. both_ways ((base_in bases t).leader == t) e (eq-eqb (base_in bases t).leader t q)) refl)
+    go true true e h = sym (led_shares (base_in bases t) t same same (eqb-true (base_in bases t).leader t e) refl)
+    go true false e h =
+        sym (digest_differs g bases s t small low below (λ q. both_ways ((base_in bases t).digest == digest_of g s) h (eq-eqb (base_in bases t).digest (digest_of g s) q)))
 
 -- the loop over the sections: those below n are done
 pub record Filled (g : Graph) (bases : List Base) (n : ℕ) : Type 0 where

@@ -210,13 +210,13 @@ module _ (g : Graph) (v : Valid g) (k : ℕ) (cs : List ℕ) (c : Classes g k cs
 
           cores : core_of (section_of g m) ≡ core_of (section_of g s)
           cores =
-              let leads =
+              let parts =
               and_parts
               (same_leader (base_in bases m) (base_in bases s))
               (eqb (base_in bases m).digest (base_in bases s).digest)
               rest.0 in
               base_shares g m s fold_m fold_s
-              (rw (b.at m (omega arith), b.at s l) at leads.0)
+              (rw (b.at m (omega arith), b.at s l) at parts.0)
 
       outside : s ≤ m → m ≡ class_at g (suc k) s
       outside le = ⊎_elim group single (cases_Bool (foldable g s))

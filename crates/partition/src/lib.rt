@@ -111,6 +111,7 @@ fn by_mark<G: SectionGraph>(graph: &G) -> [u16; 1024]
 
 impl<'a, G: SectionGraph> Sought<'a, G> {
     // Whether section `t` leads its base, and this is the base that is sought: unequal digests decide, equal ones do not.
+    #[tactic(auto, using(crate::proofs::Leaders::based_by_digests))]
     fn joins(&self, t: u16) -> bool
         requires { t < self.now.section }
         ensures { result ≡ based (G.SectionGraph.graph self.now.graph.now) self.now.bases.now self.now.section t }
@@ -162,7 +163,7 @@ fn bases<G: SectionGraph>(graph: &G) -> [Base; 1024]
 
 impl<'a, G: SectionGraph> Refinement<'a, G> {
     // Whether section `s` joins section `t` in a round: `t` leads its new class, and both have the same old class, the same base, and
-    // targets in the same old classes. Of two bases the leaders are compared; they tell the digests.
+    // targets in the same old classes. Of the two bases the leaders alone are compared: where they are the same, so are the digests.
     #[tactic(auto, using(crate::proofs::Leaders::joined_by_leaders))]
     fn joins(&self, old: &[u16; 1024], new: &[u16; 1024], s: u16, t: u16) -> bool
         requires small { s < 1024 }
